@@ -1,0 +1,17 @@
+-- The place counted along the rows stays below rows × words.
+use borrow.Author.Needs.{needs}
+use native.Mathlib.Omega.{arith}
+use Rattle.std.proofs.shelf.Bits.{mul-add-lt}
+use Rattle.raster.proofs.extent.Extent.index.Needs as need
+
+pub mul-result : need.mul-result
+mul-result c = omega (arith, mul-add-lt (c .args .row) (c .args .self .words) (c .args .place) (c .args .self .rows) (omega arith) (omega arith))
+
+pub add-result : need.add-result
+add-result c = omega (arith, mul-add-lt (c .args .row) (c .args .self .words) (c .args .place) (c .args .self .rows) (omega arith) (omega arith))
+
+pub returns-then-place-self : need.returns-then-place-self
+returns-then-place-self c = record {
+    answer = search needs;
+    within = omega (arith, mul-add-lt (c .args .row) (c .args .self .words) (c .args .place) (c .args .self .rows) (omega arith) (omega arith))
+  }
