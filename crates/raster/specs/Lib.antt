@@ -1,3 +1,4 @@
 pub mod Meaning
 pub mod Size
 pub mod Word
+pub mod Difference

@@ -1,0 +1,3 @@
+pub mod Flat
+pub mod Cells
+pub mod Differences
