@@ -1,3 +1,4 @@
 pub mod Flat
 pub mod Cells
 pub mod Differences
+pub mod Packing

@@ -2,3 +2,4 @@ pub mod Meaning
 pub mod Size
 pub mod Word
 pub mod Difference
+pub mod Packed

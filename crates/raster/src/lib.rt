@@ -5,12 +5,15 @@ ghost use Rattle.raster.specs.Meaning.{answered, replaced};
 use fault::Fault;
 
 mod extent;
+mod packed;
 mod word;
 
 pub use extent::Extent;
 pub use extent::ExtentDebug;
 pub use extent::ExtentEq;
 pub use extent::ExtentPartialEq;
+pub use packed::PackedBuffer;
+pub use packed::PackedRaster;
 pub use word::WordBuffer;
 pub use word::WordRaster;
 

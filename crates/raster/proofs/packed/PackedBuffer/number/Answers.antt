@@ -1,0 +1,14 @@
+-- A word's number is below rows × words, so its five bytes are among those that the extent needs.
+use borrow.Author.Needs.{needs}
+use native.Mathlib.Omega.{arith}
+use Rattle.std.proofs.shelf.Results.{made-weaker}
+use Rattle.raster.proofs.Packing.{in-bytes}
+use Rattle.raster.proofs.packed.PackedBuffer.number.Needs as need
+
+pub index-requires : need.index-requires
+index-requires c κs = let s = c .args .self .now in omega (arith, in-bytes (s .extent .rows) (s .extent .words) (s .fours) .0, s .room)
+
+pub returns : need.returns
+returns c =
+    let s = c .args .self .now in
+    record { answer = c .index .ensures .answer; within = made-weaker (c .index .result) _ _ (in-bytes (s .extent .rows) (s .extent .words) (s .fours) .1) (c .index .ensures .within) }
