@@ -3,3 +3,5 @@ pub mod Size
 pub mod Word
 pub mod Difference
 pub mod Packed
+pub mod Field
+pub mod Window

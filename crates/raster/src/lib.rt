@@ -5,15 +5,31 @@ ghost use Rattle.raster.specs.Meaning.{answered, replaced};
 use fault::Fault;
 
 mod extent;
+mod field;
+mod lent;
 mod packed;
+mod window;
 mod word;
 
 pub use extent::Extent;
 pub use extent::ExtentDebug;
 pub use extent::ExtentEq;
 pub use extent::ExtentPartialEq;
+pub use field::Field;
+pub use field::FieldKind;
+pub use field::FieldKindDebug;
+pub use field::FieldKindEq;
+pub use field::FieldKindPartialEq;
+pub use field::FieldRaster;
+pub use lent::LentRaster;
 pub use packed::PackedBuffer;
 pub use packed::PackedRaster;
+pub use window::Frame;
+pub use window::FrameDebug;
+pub use window::FrameEq;
+pub use window::FramePartialEq;
+pub use window::Window;
+pub use window::WindowRaster;
 pub use word::WordBuffer;
 pub use word::WordRaster;
 

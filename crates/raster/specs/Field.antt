@@ -1,0 +1,26 @@
+-- The field layer: every second row of the raster below.
+use Prim.Native.Nat.{ℕ, _+_, _*_, _-_, _/_, _%_, _<_}
+use native.Mathlib.Omega.{arith}
+use mathlib.Core.Path.{_≡_, _∙_, sym, ap}
+use Rattle.raster.specs.declared.field.FieldKind.{FieldKind}
+use Rattle.raster.specs.declared.field.FieldKind.the-variants.{Top, Bottom}
+
+-- Two kinds of field. The number of one is the row below that it begins with.
+abbrev pub firstRow : FieldKind → ℕ
+firstRow Top = 0
+firstRow Bottom = 1
+
+-- row i of the field, as a row below
+abbrev pub rowBelow : FieldKind → ℕ → ℕ
+rowBelow kind i = 2 * i + firstRow kind
+
+-- the rows of a field of so many rows
+abbrev pub fieldRows : FieldKind → ℕ → ℕ
+fieldRows kind rows = (rows + 1 - firstRow kind) / 2
+
+-- the words of the other field are the same
+abbrev pub OtherField : FieldKind → ℕ → ℕ → (ℕ → ℕ → ℕ) → (ℕ → ℕ → ℕ) → Type 0
+OtherField kind rows words at at′ = (i j : ℕ) → i < rows → j < words → (i % 2 ≡ firstRow kind → ⊥) → at′ i j ≡ at i j
+
+pub other-onward : {k k′ : FieldKind} {n n′ w w′ : ℕ} {at at′ at″ : ℕ → ℕ → ℕ} → k′ ≡ k → n′ ≡ n → w′ ≡ w → OtherField k n w at at′ → OtherField k′ n′ w′ at′ at″ → OtherField k n w at at″
+other-onward ek en ew p q i j hi hj d = q i j (omega arith) (omega arith) (λ e. d (e ∙ ap firstRow ek)) ∙ p i j hi hj d
