@@ -4,6 +4,7 @@ ghost use Prim.Native.Nat.{ℕ, _<_};
 ghost use Rattle.raster.specs.Meaning.{answered, replaced};
 use fault::Fault;
 
+mod difference;
 mod extent;
 mod field;
 mod lent;
@@ -11,6 +12,7 @@ mod packed;
 mod window;
 mod word;
 
+pub use difference::count_differing;
 pub use extent::Extent;
 pub use extent::ExtentDebug;
 pub use extent::ExtentEq;
