@@ -92,6 +92,7 @@ module _ (m : List ℕ) (n h v : ℕ) (b : Bool) (eh : h ≡ homeOf n) (ev : v �
   away i d = ap (λ x. x % 256) (getD-set-other m h i v 0 d)
 
   own-word : packedWord (set m h v) n ≡ withBit (packedWord m n) b
+  unfolding packedWord
   own-word =
       let x : byteAt (set m h v) (n / 4 * 5 + n % 4) ≡ byteAt m (n / 4 * 5 + n % 4) = away (n / 4 * 5 + n % 4) (λ e. omega arith) in
       let y : byteAt (set m h v) (n / 4 * 5 + 1 + n % 4) ≡ withUnit (byteAt m (n / 4 * 5 + 1 + n % 4)) (unitOf (n % 4)) b = ap (byteAt (set m h v)) (sym eh) ∙ home ∙ ap (λ i. withUnit (byteAt m i) (unitOf (n % 4)) b) eh in
@@ -100,6 +101,7 @@ module _ (m : List ℕ) (n h v : ℕ) (b : Bool) (eh : h ≡ homeOf n) (ev : v �
       ∙ ap (λ w. withBit w b) (sym (word-across m (n / 4) (n % 4) (omega arith)))
 
   other-word : (k : ℕ) → (k ≡ n → ⊥) → packedWord (set m h v) k ≡ packedWord m k
+  unfolding packedWord
   other-word k d =
       let y : byteAt (set m h v) (k / 4 * 5 + 1 + k % 4) ≡ byteAt m (k / 4 * 5 + 1 + k % 4) = away (k / 4 * 5 + 1 + k % 4) (λ e. d (omega arith)) in
       word-across (set m h v) (k / 4) (k % 4) (omega arith)

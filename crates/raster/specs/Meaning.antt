@@ -1,5 +1,6 @@
 -- What a look and a set mean, of any raster.
-use Prim.Native.Nat.{ℕ, _+_, _*_, _/_}
+use Prim.Native.Nat.{ℕ, _+_, _*_, _/_, _<_}
+use mathlib.Core.Path.{_≡_}
 use mathlib.Core.Bool.{Bool, cond, _&&_}
 use lib.Dec.{ltb, eqb}
 use Rattle.fault.specs.declared.Fault.{Fault}
@@ -22,3 +23,10 @@ withBit x bit = x / 2 * 2 + cond bit 1 0
 -- the words after a set
 abbrev pub replaced : (ℕ → ℕ → ℕ) → ℕ → ℕ → Bool → ℕ → ℕ → ℕ
 replaced at row place bit i j = cond (eqb i row && eqb j place) (withBit (at i j) bit) (at i j)
+
+-- n is the number of the word at a row and a place inside, counted along the rows
+pub record Numbered (rows words row place n : ℕ) : Type 0 where
+  pub number : n ≡ row * words + place
+  pub in-rows : row < rows
+  pub in-words : place < words
+  pub below : n < rows * words

@@ -5,7 +5,7 @@ use mathlib.Core.Bool.{Bool, cond}
 use mathlib.Core.List.{List}
 use mathlib.Core.Path.{_≡_, refl, _∙_}
 use lib.ListN.{length, getD, set}
-use Rattle.raster.specs.Meaning.{inside}
+use Rattle.raster.specs.Meaning.{inside, replaced}
 
 abbrev pub byteAt : List ℕ → ℕ → ℕ
 byteAt m i = getD m i 0 % 256
@@ -23,13 +23,14 @@ abbrev pub tenOf : ℕ → ℕ → ℕ
 tenOf v q = v / 2 ^ (30 - 10 * q) % 1024
 
 -- the n-th word of memory, and the word at row i and place j in rows of w
-abbrev pub packedWord : List ℕ → ℕ → ℕ
+unfoldable pub packedWord : List ℕ → ℕ → ℕ
 packedWord m n = tenOf (group m (n / 4)) (n % 4)
 
 abbrev pub packedAt : List ℕ → ℕ → ℕ → ℕ → ℕ
 packedAt m w i j = packedWord m (i * w + j)
 
 pub packed-ten : (m : List ℕ) (n : ℕ) → packedWord m n < 1024
+unfolding packedWord
 packed-ten m n = omega arith
 
 -- Bit 0 of the n-th word stands in this byte of memory, at the value 64, 16, 4 or 1 by its place among the four.
@@ -60,3 +61,9 @@ bytes-still n m = record { long = refl; upper = λ i. refl; past = λ i h. refl 
 
 pub bytes-onward : {n : ℕ} {m m′ m″ : List ℕ} → BytesKept n m m′ → BytesKept n m′ m″ → BytesKept n m m″
 bytes-onward p q = record { long = q .long ∙ p .long; upper = λ i. q .upper i ∙ p .upper i; past = λ i h. q .past i h ∙ p .past i h }
+
+-- m′ is m after a set at a row and a place inside: all of memory, what is kept, and each word. The extent needs e bytes.
+pub record BytesSet (e rows w row place : ℕ) (bit : Bool) (m m′ : List ℕ) : Type 0 where
+  pub whole : m′ ≡ bytesAfter m rows w row place bit
+  pub kept : BytesKept e m m′
+  pub after : (i j : ℕ) → i < rows → j < w → packedAt m′ w i j ≡ replaced (packedAt m w) row place bit i j

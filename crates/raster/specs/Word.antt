@@ -5,7 +5,7 @@ use mathlib.Core.Bool.{Bool, cond}
 use mathlib.Core.List.{List}
 use mathlib.Core.Path.{_≡_, refl, _∙_}
 use lib.ListN.{length, getD, set}
-use Rattle.raster.specs.Meaning.{inside, withBit}
+use Rattle.raster.specs.Meaning.{inside, withBit, replaced}
 
 -- the word at row i and place j, in rows of w: the low ten bits of its cell
 abbrev pub cellWord : List ℕ → ℕ → ℕ → ℕ → ℕ
@@ -29,3 +29,9 @@ cells-still n m = record { long = refl; upper = λ i. refl; past = λ i h. refl 
 
 pub cells-onward : {n : ℕ} {m m′ m″ : List ℕ} → CellsKept n m m′ → CellsKept n m′ m″ → CellsKept n m m″
 cells-onward p q = record { long = q .long ∙ p .long; upper = λ i. q .upper i ∙ p .upper i; past = λ i h. q .past i h ∙ p .past i h }
+
+-- m′ is m after a set at a row and a place inside: all of memory, what is kept, and each word.
+pub record CellsSet (rows w row place : ℕ) (bit : Bool) (m m′ : List ℕ) : Type 0 where
+  pub whole : m′ ≡ cellsAfter m rows w row place bit
+  pub kept : CellsKept (rows * w) m m′
+  pub after : (i j : ℕ) → i < rows → j < w → cellWord m′ w i j ≡ replaced (cellWord m w) row place bit i j

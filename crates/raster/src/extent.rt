@@ -2,7 +2,7 @@
 ghost use mathlib.Core.Path.{_≡_};
 ghost use Prim.Native.Nat.{_+_, _*_, _^_, _<_};
 ghost use Rattle.std.specs.Vec.{made};
-ghost use Rattle.raster.specs.Meaning.{answered};
+ghost use Rattle.raster.specs.Meaning.{answered, Numbered};
 ghost use Rattle.raster.specs.Size.{lawful};
 use fault::Fault;
 
@@ -25,7 +25,7 @@ impl Extent {
     pub(crate) fn index(self, row: usize, place: usize) -> Result<usize, Fault>
         requires { ⌜ self .rows * self .words < 2 ^ 64 ⌝ }
         ensures answer { λ r. ⌜ r ≡ answered (self .rows) (self .words) row place (row * self .words + place) ⌝ }
-        ensures within { λ r. ⌜ made r (λ i. i < self .rows * self .words) ⌝ }
+        ensures within { λ r. ⌜ made r (Numbered (self .rows) (self .words) row place) ⌝ }
     {
         if row < self.rows && place < self.words {
             Ok(row * self.words + place)

@@ -5,9 +5,9 @@ ghost use Prim.Native.Nat.{ℕ, _+_, _*_, _/_, _%_, _<_, _≤_};
 ghost use lib.ListN.{length, getD};
 ghost use denote.Ref.{now as behind, name};
 ghost use Rattle.std.specs.Vec.{made};
-ghost use Rattle.raster.specs.Meaning.{answered, replaced};
+ghost use Rattle.raster.specs.Meaning.{answered, replaced, Numbered};
 ghost use Rattle.raster.specs.Size.{sized, granted, bytesOf};
-ghost use Rattle.raster.specs.Packed.{packedWord, packedAt, packed-ten, forty, tenOf, withUnit, unitOf, bytesAfter, BytesKept, bytes-still, bytes-onward};
+ghost use Rattle.raster.specs.Packed.{packedWord, packedAt, packed-ten, forty, tenOf, withUnit, unitOf, bytesAfter, BytesKept, BytesSet, bytes-still, bytes-onward};
 use crate::Extent;
 use crate::Raster;
 use fault::Fault;
@@ -47,9 +47,22 @@ impl<'a> PackedBuffer<'a> {
     // The number of a word, counted along the rows: its five bytes lie in memory.
     fn number(&self, row: usize, place: usize) -> Result<usize, Fault>
         ensures answer { λ r. ⌜ r ≡ answered (now (self .entry) .extent .rows) (now (self .entry) .extent .words) row place (row * now (self .entry) .extent .words + place) ⌝ }
-        ensures within { λ r. ⌜ made r (λ n. n / 4 * 5 + 5 ≤ bytesOf (now (self .entry) .extent)) ⌝ }
+        ensures within { λ r. ⌜ made r (λ n. n / 4 * 5 + 5 ≤ length (behind (now (self .entry) .memory))) ⌝ }
+        ensures numbered { λ r. ⌜ made r (Numbered (now (self .entry) .extent .rows) (now (self .entry) .extent .words) row place) ⌝ }
     {
         self.extent.index(row, place)
+    }
+
+    // Replaces bit 0 of the n-th word, which is that of a row and a place inside.
+    fn write(&mut self, n: usize, row: usize, place: usize, bit: bool)
+        requires within { ⌜ n / 4 * 5 + 5 ≤ length (behind (now self .memory)) ⌝ }
+        requires numbered { ⌜ Numbered (now self .extent .rows) (now self .extent .words) row place n ⌝ }
+        ensures extent { λ _. ⌜ now (self .exit) .extent ≡ now (self .entry) .extent ⌝ }
+        ensures name { λ _. ⌜ name (now (self .exit) .memory) ≡ name (now (self .entry) .memory) ⌝ }
+        ensures bytes { λ _. ⌜ BytesSet (bytesOf (now (self .entry) .extent)) (now (self .entry) .extent .rows) (now (self .entry) .extent .words) row place bit (behind (now (self .entry) .memory)) (behind (now (self .exit) .memory)) ⌝ }
+    {
+        let home = n / 4 * 5 + 1 + n % 4;
+        self.memory[home] = with_unit(self.memory[home], n % 4, bit);
     }
 }
 
@@ -79,9 +92,8 @@ pub impl<'a> Raster for PackedBuffer<'a> as PackedRaster {
         ensures after { λ _. ⌜ ((i : ℕ) (j : ℕ) → i < now (self .entry) .extent .rows → j < now (self .entry) .extent .words → packedAt (behind (now (self .exit) .memory)) (now (self .exit) .extent .words) i j ≡ replaced (packedAt (behind (now (self .entry) .memory)) (now (self .entry) .extent .words)) row place bit i j) ⌝ }
         ensures memory { λ _. ⌜ behind (now (self .exit) .memory) ≡ bytesAfter (behind (now (self .entry) .memory)) (now (self .entry) .extent .rows) (now (self .entry) .extent .words) row place bit ⌝ }
     {
-        let n = self.number(row, place)?;
-        let home = n / 4 * 5 + 1 + n % 4;
-        self.memory[home] = with_unit(self.memory[home], n % 4, bit);
+        let n = (*self).number(row, place)?;
+        self.write(n, row, place, bit);
         Ok(())
     }
 }

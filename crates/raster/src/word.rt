@@ -5,9 +5,9 @@ ghost use Prim.Native.Nat.{ℕ, _+_, _*_, _%_, _<_, _≤_};
 ghost use lib.ListN.{length, getD};
 ghost use denote.Ref.{now as behind, name};
 ghost use Rattle.std.specs.Vec.{made};
-ghost use Rattle.raster.specs.Meaning.{answered, replaced, withBit};
+ghost use Rattle.raster.specs.Meaning.{answered, replaced, withBit, Numbered};
 ghost use Rattle.raster.specs.Size.{sized, granted, cellsOf};
-ghost use Rattle.raster.specs.Word.{cellWord, ten-bits, cellsAfter, CellsKept, cells-still, cells-onward};
+ghost use Rattle.raster.specs.Word.{cellWord, ten-bits, cellsAfter, CellsKept, CellsSet, cells-still, cells-onward};
 use crate::Extent;
 use crate::Raster;
 use fault::Fault;
@@ -42,6 +42,16 @@ impl<'a> WordBuffer<'a> {
             Err(_) => WordBuffer { extent: Extent { rows: 0, words: 0 }, memory },
         }
     }
+
+    // Replaces bit 0 of the i-th cell, which is that of a row and a place inside.
+    fn write(&mut self, i: usize, row: usize, place: usize, bit: bool)
+        requires { ⌜ Numbered (now self .extent .rows) (now self .extent .words) row place i ⌝ }
+        ensures extent { λ _. ⌜ now (self .exit) .extent ≡ now (self .entry) .extent ⌝ }
+        ensures name { λ _. ⌜ name (now (self .exit) .memory) ≡ name (now (self .entry) .memory) ⌝ }
+        ensures cells { λ _. ⌜ CellsSet (now (self .entry) .extent .rows) (now (self .entry) .extent .words) row place bit (behind (now (self .entry) .memory)) (behind (now (self .exit) .memory)) ⌝ }
+    {
+        self.memory[i] = with_bit(self.memory[i], bit);
+    }
 }
 
 pub impl<'a> Raster for WordBuffer<'a> as WordRaster {
@@ -71,7 +81,7 @@ pub impl<'a> Raster for WordBuffer<'a> as WordRaster {
         ensures memory { λ _. ⌜ behind (now (self .exit) .memory) ≡ cellsAfter (behind (now (self .entry) .memory)) (now (self .entry) .extent .rows) (now (self .entry) .extent .words) row place bit ⌝ }
     {
         let i = self.extent.index(row, place)?;
-        self.memory[i] = with_bit(self.memory[i], bit);
+        self.write(i, row, place, bit);
         Ok(())
     }
 }

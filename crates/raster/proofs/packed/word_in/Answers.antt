@@ -5,10 +5,11 @@ use mathlib.Core.Path.{_≡_, _∙_}
 use Prim.Native.Nat.{ℕ, _+_, _*_, _/_, _-_, _<_}
 use lib.ListN.{length, getD, take, drop}
 use Rattle.std.proofs.shelf.Lists.{places}
-use Rattle.raster.specs.Packed.{byteAt}
+use Rattle.raster.specs.Packed.{byteAt, packedWord}
 use Rattle.raster.proofs.packed.word_in.Needs as need
 
 pub returns : need.returns
+unfolding packedWord
 returns c =
     let m = c .args .memory .now in
     let g = c .args .n / 4 * 5 in

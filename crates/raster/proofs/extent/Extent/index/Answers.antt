@@ -1,5 +1,6 @@
 -- The place counted along the rows stays below rows × words.
 use borrow.Author.Needs.{needs}
+use mathlib.Core.Path.{refl}
 use native.Mathlib.Omega.{arith}
 use Rattle.std.proofs.shelf.Bits.{mul-add-lt}
 use Rattle.raster.proofs.extent.Extent.index.Needs as need
@@ -13,5 +14,5 @@ add-result c = omega (arith, mul-add-lt (c .args .row) (c .args .self .words) (c
 pub returns-then-place-self : need.returns-then-place-self
 returns-then-place-self c = record {
     answer = search needs;
-    within = omega (arith, mul-add-lt (c .args .row) (c .args .self .words) (c .args .place) (c .args .self .rows) (omega arith) (omega arith))
+    within = record { number = refl; in-rows = search needs; in-words = search needs; below = omega (arith, mul-add-lt (c .args .row) (c .args .self .words) (c .args .place) (c .args .self .rows) (omega arith) (omega arith)) }
   }
