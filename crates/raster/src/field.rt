@@ -1,8 +1,9 @@
 // The field layer: every second row of the raster below.
 ghost use mathlib.Core.Path.{_≡_, refl, _∙_};
 ghost use Prim.Native.Nat.{ℕ, _+_, _*_, _/_, _%_, _<_};
+ghost use Rattle.std.specs.declared.result.Result.the-variants.{Ok};
 ghost use Rattle.raster.specs.Meaning.{answered, replaced};
-ghost use Rattle.raster.specs.Field.{firstRow, rowBelow, fieldRows, OtherField, other-onward};
+ghost use Rattle.raster.specs.Field.{firstRow, rowBelow, fieldRows, OtherField, other-onward, FieldSet};
 use crate::Extent;
 use crate::Raster;
 use fault::Fault;
@@ -37,6 +38,19 @@ impl<R: Raster> Field<R> {
             Err(Fault::Outside { row, word: place })
         }
     }
+
+    // Sets in the raster below, at the row that a row of the field is.
+    fn set_below(&mut self, below: usize, row: usize, place: usize, bit: bool) -> Result<(), Fault>
+        requires { ⌜ Ok below ≡ answered (fieldRows (now self .kind) (R·Raster .rows (now self .below))) (R·Raster .words (now self .below)) row place (rowBelow (now self .kind) row) ⌝ }
+        ensures answer { λ r. ⌜ r ≡ Ok tt ⌝ }
+        ensures kind { λ _. ⌜ now (self .exit) .kind ≡ now (self .entry) .kind ⌝ }
+        ensures rows { λ _. ⌜ R·Raster .rows (now (self .exit) .below) ≡ R·Raster .rows (now (self .entry) .below) ⌝ }
+        ensures words { λ _. ⌜ R·Raster .words (now (self .exit) .below) ≡ R·Raster .words (now (self .entry) .below) ⌝ }
+        ensures kept { λ _. ⌜ R·Raster .kept (now (self .entry) .below) (now (self .exit) .below) ⌝ }
+        ensures field { λ _. ⌜ FieldSet (now (self .entry) .kind) (R·Raster .rows (now (self .entry) .below)) (R·Raster .words (now (self .entry) .below)) row place bit (R·Raster .at (now (self .entry) .below)) (R·Raster .at (now (self .exit) .below)) ⌝ }
+    {
+        self.below.set(below, place, bit)
+    }
 }
 
 pub impl<R: Raster> Raster for Field<R> as FieldRaster {
@@ -60,7 +74,7 @@ pub impl<R: Raster> Raster for Field<R> as FieldRaster {
 
     fn set(&mut self, row: usize, place: usize, bit: bool) -> Result<(), Fault> {
         let below = (*self).row_below(row, place)?;
-        self.below.set(below, place, bit)
+        self.set_below(below, row, place, bit)
     }
 }
 

@@ -1,8 +1,9 @@
 // The window layer: a part of the raster below, cut to what lies inside it.
 ghost use mathlib.Core.Path.{_≡_, refl, _∙_, subst};
 ghost use Prim.Native.Nat.{ℕ, _+_, _-_, _<_, _≤_};
+ghost use Rattle.std.specs.declared.result.Result.the-variants.{Ok};
 ghost use Rattle.raster.specs.Meaning.{answered, replaced};
-ghost use Rattle.raster.specs.Window.{shownOf, Around, around-onward};
+ghost use Rattle.raster.specs.Window.{shownOf, Around, around-onward, WindowSet};
 use crate::Extent;
 use crate::ExtentDebug;
 use crate::ExtentPartialEq;
@@ -42,6 +43,19 @@ impl<R: Raster> Window<R> {
             Err(Fault::Outside { row, word: place })
         }
     }
+
+    // Sets in the raster below, at the spot that a row and a place of the window are.
+    fn set_below(&mut self, spot: (usize, usize), row: usize, place: usize, bit: bool) -> Result<(), Fault>
+        requires { ⌜ Ok spot ≡ answered (shownOf (R·Raster .rows (now self .below)) (now self .frame .top) (now self .frame .size .rows)) (shownOf (R·Raster .words (now self .below)) (now self .frame .left) (now self .frame .size .words)) row place (now self .frame .top + row, now self .frame .left + place) ⌝ }
+        ensures answer { λ r. ⌜ r ≡ Ok tt ⌝ }
+        ensures frame { λ _. ⌜ now (self .exit) .frame ≡ now (self .entry) .frame ⌝ }
+        ensures rows { λ _. ⌜ R·Raster .rows (now (self .exit) .below) ≡ R·Raster .rows (now (self .entry) .below) ⌝ }
+        ensures words { λ _. ⌜ R·Raster .words (now (self .exit) .below) ≡ R·Raster .words (now (self .entry) .below) ⌝ }
+        ensures kept { λ _. ⌜ R·Raster .kept (now (self .entry) .below) (now (self .exit) .below) ⌝ }
+        ensures window { λ _. ⌜ WindowSet (now (self .entry) .frame .top) (now (self .entry) .frame .left) (now (self .entry) .frame .size) (R·Raster .rows (now (self .entry) .below)) (R·Raster .words (now (self .entry) .below)) row place bit (R·Raster .at (now (self .entry) .below)) (R·Raster .at (now (self .exit) .below)) ⌝ }
+    {
+        self.below.set(spot.0, spot.1, bit)
+    }
 }
 
 pub impl<R: Raster> Raster for Window<R> as WindowRaster {
@@ -65,7 +79,7 @@ pub impl<R: Raster> Raster for Window<R> as WindowRaster {
 
     fn set(&mut self, row: usize, place: usize, bit: bool) -> Result<(), Fault> {
         let spot = (*self).spot_below(row, place)?;
-        self.below.set(spot.0, spot.1, bit)
+        self.set_below(spot, row, place, bit)
     }
 }
 
