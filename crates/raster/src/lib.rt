@@ -1,4 +1,4 @@
-// Rasters: rows of ten-bit sample words in lent memory, and layers over them.
+// Rasters: rows of ten-bit sample words, and what it means to look at them and to set them.
 ghost use mathlib.Core.Path.{_≡_};
 ghost use Prim.Native.Nat.{ℕ, _<_};
 ghost use Rattle.raster.specs.Meaning.{answered, replaced};
@@ -6,34 +6,14 @@ use fault::Fault;
 
 mod difference;
 mod extent;
-mod field;
 mod lent;
-mod packed;
-mod window;
-mod word;
 
 pub use difference::count_differing;
 pub use extent::Extent;
 pub use extent::ExtentDebug;
 pub use extent::ExtentEq;
 pub use extent::ExtentPartialEq;
-pub use field::Field;
-pub use field::FieldKind;
-pub use field::FieldKindDebug;
-pub use field::FieldKindEq;
-pub use field::FieldKindPartialEq;
-pub use field::FieldRaster;
 pub use lent::LentRaster;
-pub use packed::PackedBuffer;
-pub use packed::PackedRaster;
-pub use window::Frame;
-pub use window::FrameDebug;
-pub use window::FrameEq;
-pub use window::FramePartialEq;
-pub use window::Window;
-pub use window::WindowRaster;
-pub use word::WordBuffer;
-pub use word::WordRaster;
 
 // What a raster is. Whoever implements it shows this meaning, and all code above then holds of it.
 pub trait Raster {

@@ -1,0 +1,16 @@
+// Layers: rasters over any raster, which show a part of it.
+mod field;
+mod window;
+
+pub use field::Field;
+pub use field::FieldKind;
+pub use field::FieldKindDebug;
+pub use field::FieldKindEq;
+pub use field::FieldKindPartialEq;
+pub use field::FieldRaster;
+pub use window::Frame;
+pub use window::FrameDebug;
+pub use window::FrameEq;
+pub use window::FramePartialEq;
+pub use window::Window;
+pub use window::WindowRaster;
