@@ -21,29 +21,29 @@ line n l = record { number = n; layer = l }
 abbrev pub table : List Line
 table =
     line 1 Raster
-  ∷ line 2 Raster
-  ∷ line 3 Picture
-  ∷ line 4 Picture
-  ∷ line 5 Picture
-  ∷ line 6 Picture
-  ∷ line 10 Block
-  ∷ line 11 Block
-  ∷ line 12 Block
-  ∷ line 13 Block
-  ∷ line 14 Block
-  ∷ line 15 Block
-  ∷ line 16 Block
-  ∷ line 17 Block
-  ∷ line 18 Picture
-  ∷ line 19 Picture
-  ∷ line 20 Picture
-  ∷ line 21 Picture
-  ∷ line 22 Picture
-  ∷ line 23 Picture
-  ∷ line 24 Picture
-  ∷ line 25 Picture
-  ∷ line 26 Picture
-  ∷ []
+    ∷ line 2 Raster
+    ∷ line 3 Picture
+    ∷ line 4 Picture
+    ∷ line 5 Picture
+    ∷ line 6 Picture
+    ∷ line 10 Block
+    ∷ line 11 Block
+    ∷ line 12 Block
+    ∷ line 13 Block
+    ∷ line 14 Block
+    ∷ line 15 Block
+    ∷ line 16 Block
+    ∷ line 17 Block
+    ∷ line 18 Picture
+    ∷ line 19 Picture
+    ∷ line 20 Picture
+    ∷ line 21 Picture
+    ∷ line 22 Picture
+    ∷ line 23 Picture
+    ∷ line 24 Picture
+    ∷ line 25 Picture
+    ∷ line 26 Picture
+    ∷ []
 
 -- the line of the table that a refusal stands in, counted from 0
 abbrev pub lineOf : Fault → ℕ

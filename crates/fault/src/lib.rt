@@ -2,7 +2,10 @@
 ghost use mathlib.Core.Path.{_≡_};
 ghost use Rattle.fault.specs.Table.{numberOf, layerOf, placeOf};
 
+mod equality;
 
+pub use equality::FaultEq;
+pub use equality::FaultPartialEq;
 
 // The layer that a refusal belongs to.
 #[derive(Clone, Copy, Debug, PartialEq, Eq)]
@@ -93,7 +96,10 @@ impl Fault {
         ensures { λ r. ⌜ r ≡ placeOf (now (self .entry)) ⌝ }
     {
         match self {
-            Fault::Outside { row, word } => Place::Word { row: *row, word: *word },
+            Fault::Outside { row, word } => Place::Word {
+                row: *row,
+                word: *word,
+            },
             Fault::EmptySlot(slot) => Place::Slot(*slot),
             Fault::DisputedSlot(slot) => Place::Slot(*slot),
             _ => Place::Nowhere,
