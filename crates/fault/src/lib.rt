@@ -3,9 +3,14 @@ ghost use mathlib.Core.Path.{_≡_};
 ghost use Rattle.fault.specs.Table.{numberOf, layerOf, placeOf};
 
 mod equality;
+mod printing;
 
 pub use equality::FaultEq;
 pub use equality::FaultPartialEq;
+pub use printing::FaultDisplay;
+pub use printing::FaultError;
+pub use printing::LayerDisplay;
+pub use printing::PlaceDisplay;
 
 // The layer that a refusal belongs to.
 #[derive(Clone, Copy, Debug, PartialEq, Eq)]
