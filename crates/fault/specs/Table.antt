@@ -1,6 +1,7 @@
 -- The refusals: the number and the layer of each, and how many there are.
-use Prim.Native.Nat.{ℕ}
-use mathlib.Core.List.{List, [], _∷_}
+use Prim.Native.Nat.{ℕ, _<_}
+use mathlib.Core.Path.{_≡_}
+use mathlib.Core.List.{List, [], _∷_, map}
 use lib.ListN.{length, getD}
 use Rattle.fault.specs.declared.Layer.{Layer}
 use Rattle.fault.specs.declared.Layer.the-variants.{Raster, Block, Picture}
@@ -102,3 +103,23 @@ placeOf MpegStandard = Nowhere
 placeOf PictureStructure = Nowhere
 placeOf ChromaFormat = Nowhere
 placeOf SpareBit = Nowhere
+
+-- the table's column of numbers
+abbrev pub tableNumbers : List ℕ
+tableNumbers = map (λ l. l .number) table
+
+-- every refusal stands in the table
+abbrev pub Listed : Type 0
+Listed = (f : Fault) → lineOf f < length table
+
+-- every line is the line of some refusal
+abbrev pub Used : Type 0
+Used = (i : ℕ) → i < length table → (f : Fault) × (lineOf f ≡ i)
+
+-- refusals on one line are of one kind: they differ at most in the place
+abbrev pub Apart : Type 0
+Apart = (f g : Fault) → lineOf f ≡ lineOf g → placeOf f ≡ placeOf g → f ≡ g
+
+-- each number is above those of all earlier lines, so none stands twice
+abbrev pub Ascending : Type 0
+Ascending = (i j : ℕ) → i < j → j < length table → getD tableNumbers i 0 < getD tableNumbers j 0
