@@ -1,6 +1,7 @@
 -- The refusals: the number and the layer of each, and how many there are.
-use Prim.Native.Nat.{ℕ}
-use mathlib.Core.List.{List, [], _∷_}
+use Prim.Native.Nat.{ℕ, _<_}
+use mathlib.Core.Path.{_≡_}
+use mathlib.Core.List.{List, [], _∷_, map}
 use lib.ListN.{length, getD}
 use Rattle.fault.specs.declared.Layer.{Layer}
 use Rattle.fault.specs.declared.Layer.the-variants.{Raster, Block, Picture}
@@ -21,29 +22,29 @@ line n l = record { number = n; layer = l }
 abbrev pub table : List Line
 table =
     line 1 Raster
-  ∷ line 2 Raster
-  ∷ line 3 Picture
-  ∷ line 4 Picture
-  ∷ line 5 Picture
-  ∷ line 6 Picture
-  ∷ line 10 Block
-  ∷ line 11 Block
-  ∷ line 12 Block
-  ∷ line 13 Block
-  ∷ line 14 Block
-  ∷ line 15 Block
-  ∷ line 16 Block
-  ∷ line 17 Block
-  ∷ line 18 Picture
-  ∷ line 19 Picture
-  ∷ line 20 Picture
-  ∷ line 21 Picture
-  ∷ line 22 Picture
-  ∷ line 23 Picture
-  ∷ line 24 Picture
-  ∷ line 25 Picture
-  ∷ line 26 Picture
-  ∷ []
+    ∷ line 2 Raster
+    ∷ line 3 Picture
+    ∷ line 4 Picture
+    ∷ line 5 Picture
+    ∷ line 6 Picture
+    ∷ line 10 Block
+    ∷ line 11 Block
+    ∷ line 12 Block
+    ∷ line 13 Block
+    ∷ line 14 Block
+    ∷ line 15 Block
+    ∷ line 16 Block
+    ∷ line 17 Block
+    ∷ line 18 Picture
+    ∷ line 19 Picture
+    ∷ line 20 Picture
+    ∷ line 21 Picture
+    ∷ line 22 Picture
+    ∷ line 23 Picture
+    ∷ line 24 Picture
+    ∷ line 25 Picture
+    ∷ line 26 Picture
+    ∷ []
 
 -- the line of the table that a refusal stands in, counted from 0
 abbrev pub lineOf : Fault → ℕ
@@ -102,3 +103,23 @@ placeOf MpegStandard = Nowhere
 placeOf PictureStructure = Nowhere
 placeOf ChromaFormat = Nowhere
 placeOf SpareBit = Nowhere
+
+-- the table's column of numbers
+abbrev pub tableNumbers : List ℕ
+tableNumbers = map (λ l. l .number) table
+
+-- every refusal stands in the table
+abbrev pub Listed : Type 0
+Listed = (f : Fault) → lineOf f < length table
+
+-- every line is the line of some refusal
+abbrev pub Used : Type 0
+Used = (i : ℕ) → i < length table → (f : Fault) × (lineOf f ≡ i)
+
+-- refusals on one line are of one kind: they differ at most in the place
+abbrev pub Apart : Type 0
+Apart = (f g : Fault) → lineOf f ≡ lineOf g → placeOf f ≡ placeOf g → f ≡ g
+
+-- each number is above those of all earlier lines, so none stands twice
+abbrev pub Ascending : Type 0
+Ascending = (i j : ℕ) → i < j → j < length table → getD tableNumbers i 0 < getD tableNumbers j 0

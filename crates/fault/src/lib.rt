@@ -1,8 +1,16 @@
 // The refusal: one type for every layer, carried whole by `?` from raster to block to picture.
 ghost use mathlib.Core.Path.{_≡_};
-ghost use Rattle.fault.specs.Table.{numberOf, layerOf, placeOf};
+ghost use Rattle.fault.specs.Table.{numberOf, layerOf, placeOf, tableNumbers, Listed, Used, Apart, Ascending};
 
+mod equality;
+mod printing;
 
+pub use equality::FaultEq;
+pub use equality::FaultPartialEq;
+pub use printing::FaultDisplay;
+pub use printing::FaultError;
+pub use printing::LayerDisplay;
+pub use printing::PlaceDisplay;
 
 // The layer that a refusal belongs to.
 #[derive(Clone, Copy, Debug, PartialEq, Eq)]
@@ -93,10 +101,57 @@ impl Fault {
         ensures { λ r. ⌜ r ≡ placeOf (now (self .entry)) ⌝ }
     {
         match self {
-            Fault::Outside { row, word } => Place::Word { row: *row, word: *word },
+            Fault::Outside { row, word } => Place::Word {
+                row: *row,
+                word: *word,
+            },
             Fault::EmptySlot(slot) => Place::Slot(*slot),
             Fault::DisputedSlot(slot) => Place::Slot(*slot),
             _ => Place::Nowhere,
         }
     }
+}
+
+// That the table has each refusal once: nothing runs, callers learn it.
+fn table_is_whole()
+    ensures listed { λ _. ⌜ Listed ⌝ }
+    ensures used { λ _. ⌜ Used ⌝ }
+    ensures apart { λ _. ⌜ Apart ⌝ }
+    ensures ascending { λ _. ⌜ Ascending ⌝ }
+{}
+
+// The number of every refusal, in ascending order.
+pub fn numbers() -> [u8; 23]
+    ensures column { λ r. ⌜ r ≡ tableNumbers ⌝ }
+    ensures listed { λ _. ⌜ Listed ⌝ }
+    ensures used { λ _. ⌜ Used ⌝ }
+    ensures apart { λ _. ⌜ Apart ⌝ }
+    ensures ascending { λ _. ⌜ Ascending ⌝ }
+{
+    table_is_whole();
+    [
+        Fault::Size.number(),
+        Fault::Outside { row: 0, word: 0 }.number(),
+        Fault::Format.number(),
+        Fault::FirstReference.number(),
+        Fault::Length.number(),
+        Fault::SlotNumber.number(),
+        Fault::SlabExtent.number(),
+        Fault::NotInFormat.number(),
+        Fault::ComponentWidth.number(),
+        Fault::Sync.number(),
+        Fault::BlockCheck.number(),
+        Fault::ReservedBit.number(),
+        Fault::ReferenceRange.number(),
+        Fault::RecordRule.number(),
+        Fault::FrameOrField.number(),
+        Fault::UnexpectedReference.number(),
+        Fault::EmptySlot(0).number(),
+        Fault::DisputedSlot(0).number(),
+        Fault::ImageCheck.number(),
+        Fault::MpegStandard.number(),
+        Fault::PictureStructure.number(),
+        Fault::ChromaFormat.number(),
+        Fault::SpareBit.number(),
+    ]
 }
