@@ -1,91 +1,23 @@
 -- The laws of an embedding, over the words before and after as plain functions.
-use Prim.Native.Nat.{ℕ, zero, suc, _+_, _*_, _-_, _/_, _%_, _^_, _<_, _≤_}
+use Prim.Native.Nat.{ℕ, zero, suc, _+_, _*_, _-_, _/_, _%_, _<_, _≤_}
 use mathlib.Core.Path.{_≡_, refl, sym, ap, _∙_}
 use mathlib.Core.Logic.{inl, inr}
-use mathlib.Core.List.{List, map}
+use mathlib.Core.List.{List}
 use mathlib.Core.Bool.{Bool, true, false, cond, _&&_}
 use native.Mathlib.Omega.{arith}
 use native.Mathlib.Numerals.{add-one}
 use native.Mathlib.Nat.{sub-zero}
 use lib.Dec.{ltb, leb, eqb}
 use lib.ListN.{length, getD}
-use Rattle.std.specs.Iters.{counting}
-use Rattle.std.proofs.shelf.Bits.{mod-pow-add, shr-shr}
-use Rattle.std.proofs.shelf.Counted.{fill-by-all, getD-map-counting, length-map-counting}
 use Rattle.std.proofs.shelf.Tests.{cases-lt, eq-eqb, true≢false}
 use Rattle.std.proofs.shelf.Ways.{tells}
 use Rattle.raster.specs.Difference.{differingWords, differing}
 use Rattle.raster.proofs.Differences.{words-none, words-more, rows-none, rows-more}
 use Rattle.block.specs.declared.column.Window.{Window}
-use Rattle.block.specs.Scramble.{parity, scrambled, unscrambled}
-use Rattle.block.specs.Column.{carrying, bitAt, laden, embedded, spelled, carriedRow, carriedBlock}
-use Rattle.block.specs.Window.{among, rowsTo, blockOf}
-use Rattle.block.proofs.Steps.{below-two, spelled-none, spelled-more}
-
--- a laden word carries its bit
-same-parity : (x b : ℕ) → b < 2 → parity (x / 2 * 2 + b) ≡ parity x
-same-parity x b h = let e : (x / 2 * 2 + b) / 4 % 256 ≡ x / 4 % 256 = omega arith in rw e
-
-sum-twice : (d p q : ℕ) → d < 2 → p < 2 → q < 2 → ((d + p + q) % 2 + p + q) % 2 ≡ d
-sum-twice d p q hd hp hq = omega arith
-
-low-bit : (x b : ℕ) → b < 2 → (x / 2 * 2 + b) % 2 ≡ b
-low-bit x b h = omega arith
-
-pub laden-carries : (line : ℕ → ℕ) (j d : ℕ) → d < 2 → unscrambled (laden line j d) (line (j + 1)) ≡ d
-laden-carries line j d h =
-    let b = scrambled (line j) (line (j + 1)) d in
-    rw (same-parity (line j) b (below-two _), low-bit (line j) b (below-two _)) (sum-twice d (parity (line j)) (parity (line (j + 1))) h (below-two _) (below-two _))
-
--- and is as it was above bit 0
-laden-above : (line : ℕ → ℕ) (j d : ℕ) → laden line j d / 2 ≡ line j / 2
-laden-above line j d = omega arith
-
--- the n bits above bit m, and that bit
-upper-more : (v m n : ℕ) → v / 2 ^ (m + 1) % 2 ^ n * 2 + v / 2 ^ m % 2 ≡ v / 2 ^ m % 2 ^ (n + 1)
-upper-more v m n = rw (sym (shr-shr v m 1)) (sym (mod-pow-add (v / 2 ^ m) n 1))
-
--- a line whose chroma words are laden with a row carries it
-module _ (a b : ℕ → ℕ) (first v : ℕ)
-    (even : (k : ℕ) → k < 16 → b (first + 2 * k) ≡ laden a (first + 2 * k) (bitAt v k))
-    (odd : (k : ℕ) → k < 16 → b (first + 2 * k + 1) ≡ a (first + 2 * k + 1)) where
-  bit-carried : (k : ℕ) → k < 16 → unscrambled (b (first + 2 * k)) (b (first + 2 * k + 1)) ≡ bitAt v k
-  bit-carried k h = rw (even k h, odd k h) (laden-carries a (first + 2 * k) (bitAt v k) (below-two _))
-
-  spelled-upper : (n : ℕ) → n ≤ 16 → spelled b first n ≡ v / 2 ^ (16 - n) % 2 ^ n
-  spelled-upper zero h = spelled-none b first ∙ omega arith
-  spelled-upper (suc n) h =
-      let here : 16 - n ≡ 15 - n + 1 = omega arith in
-      let next : 16 - (n + 1) ≡ 15 - n = omega arith in
-      rw (sym (add-one n)) (spelled-more b first n ∙ rw (bit-carried n (omega arith), spelled-upper n (omega arith), here, next) (upper-more v (15 - n) n))
-
-  spelled-row : v < 65536 → spelled b first 16 ≡ v
-  spelled-row h = spelled-upper 16 (omega arith) ∙ omega arith
-
--- lines that agree carry the same
-module _ (a b : ℕ → ℕ) (first : ℕ) where
-  spelled-like : (n : ℕ) → ((j : ℕ) → first ≤ j → j < first + 2 * n → b j ≡ a j) → spelled b first n ≡ spelled a first n
-  spelled-like zero same = spelled-none b first ∙ sym (spelled-none a first)
-  spelled-like (suc n) same =
-      rw (sym (add-one n)) (spelled-more b first n ∙ rw (spelled-like n (λ j l h. same j l (omega arith)), same (first + 2 * n) (omega arith) (omega arith), same (first + 2 * n + 1) (omega arith) (omega arith)) (sym (spelled-more a first n)))
-
--- a carried block is its 16 rows
-pub carried-row : (at : ℕ → ℕ → ℕ) (c i : ℕ) → i < 16 → getD (carriedBlock at c) i 0 ≡ carriedRow at c i
-unfolding carriedBlock
-carried-row at c i h = getD-map-counting (carriedRow at c) 0 16 i i 0 h (omega arith)
-
-pub carried-length : (at : ℕ → ℕ → ℕ) (c : ℕ) → length (carriedBlock at c) ≡ 16
-unfolding carriedBlock
-carried-length at c = refl
-
-pub carried-is : (at : ℕ → ℕ → ℕ) (c : ℕ) (block : List ℕ) → length block ≡ 16 → ((i : ℕ) → i < 16 → carriedRow at c i ≡ getD block i 0) → carriedBlock at c ≡ block
-unfolding carriedBlock
-carried-is at c block h rows = sym (fill-by-all (carriedRow at c) block 16 0 h (λ i l. sym (rows i l)))
-
--- and is that of the column's window
-pub window-block : (at : ℕ → ℕ → ℕ) (w : Window) (c : ℕ) → w ≡ record { row = 0; word = 32 * c } → blockOf at w ≡ carriedBlock at c
-unfolding blockOf carriedBlock
-window-block at w c e = rw e
+use Rattle.block.specs.Column.{carrying, bitAt, embedded, carriedRows}
+use Rattle.block.specs.Window.{among, rowsTo}
+use Rattle.block.proofs.Steps.{place-bit}
+use Rattle.block.proofs.Spelled.{laden-above, spelled-row, spelled-like, carried-row, carried-length, carried-is}
 
 -- which words carry
 even-carries : (c i k : ℕ) → i < 16 → k < 16 → carrying c i (32 * c + 2 * k) ≡ true
@@ -93,9 +25,6 @@ even-carries c i k hi hk = grind (arith, tells)
 
 odd-idle : (c i k : ℕ) → carrying c i (32 * c + 2 * k + 1) ≡ false
 odd-idle c i k = grind (arith, tells)
-
-place-bit : (c k : ℕ) → (32 * c + 2 * k - 32 * c) / 2 ≡ k
-place-bit c k = omega arith
 
 other-idle : (c d i j : ℕ) → (d ≡ c → ⊥) → 32 * d ≤ j → j < 32 * d + 32 → carrying c i j ≡ false
 other-idle c d i j n l h = grind (arith, tells)
@@ -120,12 +49,12 @@ window-embeds at w c block i j e = rw (e, sub-zero i, row-and-place c i j) (cond
 -- the rows embedded are the rows carried
 module _ (at at′ : ℕ → ℕ → ℕ) (rows words c : ℕ) (block : List ℕ) (hr : 16 ≤ rows) (hw : 32 * c + 32 ≤ words)
     (after : (i j : ℕ) → i < rows → j < words → at′ i j ≡ embedded at c block i j) where
-  pub reads-back : length block ≡ 16 → ((i : ℕ) → getD block i 0 < 65536) → carriedBlock at′ c ≡ block
+  pub reads-back : length block ≡ 16 → ((i : ℕ) → getD block i 0 < 65536) → carriedRows at′ c ≡ block
   reads-back long small =
       carried-is at′ c block long (λ i hi. spelled-row (at i) (at′ i) (32 * c) (getD block i 0)
-        (λ k hk. after i (32 * c + 2 * k) (omega arith) (omega arith) ∙ rw (even-carries c i k hi hk, place-bit c k))
-        (λ k hk. after i (32 * c + 2 * k + 1) (omega arith) (omega arith) ∙ rw (odd-idle c i k))
-        (small i))
+      (λ k hk. after i (32 * c + 2 * k) (omega arith) (omega arith) ∙ rw (even-carries c i k hi hk, place-bit (32 * c) k))
+      (λ k hk. after i (32 * c + 2 * k + 1) (omega arith) (omega arith) ∙ rw (odd-idle c i k))
+      (small i))
 
 -- a line of which at most m words carry differs in at most m words
 module _ (a b : ℕ → ℕ) (words first m : ℕ) (same : (j : ℕ) → j < words → among first m j ≡ false → b j ≡ a j) where
@@ -159,10 +88,10 @@ module _ (at at′ : ℕ → ℕ → ℕ) (rows words c : ℕ) (block : List ℕ
   only-low i j hi hj = only-at i j ok (carrying c i j) refl (after i j hi hj)
 
   -- what every other column carries
-  pub others-same : (d : ℕ) → (d ≡ c → ⊥) → 16 ≤ rows → 32 * d + 32 ≤ words → carriedBlock at′ d ≡ carriedBlock at d
+  pub others-same : (d : ℕ) → (d ≡ c → ⊥) → 16 ≤ rows → 32 * d + 32 ≤ words → carriedRows at′ d ≡ carriedRows at d
   others-same d n hr hw =
-      carried-is at′ d (carriedBlock at d) (carried-length at d)
-        (λ i hi. spelled-like (at i) (at′ i) (32 * d) 16 (λ j l h. only-low i j (omega arith) (omega arith) .1 (other-idle c d i j n l h)) ∙ sym (carried-row at d i hi))
+      carried-is at′ d (carriedRows at d) (carried-length at d)
+      (λ i hi. spelled-like (at i) (at′ i) (32 * d) 16 (λ j l h. only-low i j (omega arith) (omega arith) .1 (other-idle c d i j n l h)) ∙ sym (carried-row at d i hi))
 
   -- all words but 16 of each of 16 rows
   few-line : (n : ℕ) → n < rows → (m : ℕ) → ((j : ℕ) → among (32 * c) m j ≡ false → carrying c n j ≡ false) → differingWords (at n) (at′ n) words ≤ m
@@ -173,10 +102,10 @@ module _ (at at′ : ℕ → ℕ → ℕ) (rows words c : ℕ) (block : List ℕ
   few-rows (suc n) h =
       let d = few-rows n (omega arith) in
       rw (sym (add-one n), rows-more at at′ n words)
-        (elim (cases-lt n 16) [
-          inl l ↦ let w = few-line n h 16 (λ j t. row-idle c n j t) in (omega arith, omega arith)
+      (elim (cases-lt n 16) [
+        | inl l ↦ let w = few-line n h 16 (λ j t. row-idle c n j t) in (omega arith, omega arith)
         | inr g ↦ let w = few-line n h 0 (λ j t. past-idle c n j g) in (omega arith, omega arith)
-        ])
+      ])
 
   pub few-differ : differing at at′ rows words ≤ 256
   few-differ = few-rows rows (omega arith) .1

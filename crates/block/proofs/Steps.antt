@@ -1,24 +1,22 @@
--- The steps of the loops: one bit more of a row, and one row more of a window.
-use Prim.Native.Nat.{ℕ, _+_, _*_, _-_, _/_, _%_, _^_, _<_, _≤_}
-use mathlib.Core.Path.{_≡_, refl, sym, ap, _∙_}
+-- The steps of an embedding: one bit more of a row, and one row more of a window.
+use Prim.Native.Nat.{ℕ, _+_, _*_, _-_, _/_, _%_, _<_, _≤_}
+use mathlib.Core.Path.{_≡_, refl, _∙_}
 use mathlib.Core.Logic.{inl, inr}
 use mathlib.Core.List.{List}
 use mathlib.Core.Bool.{Bool, true, false, cond, _&&_}
 use native.Mathlib.Omega.{arith}
-use native.Mathlib.Numerals.{add-one}
-use native.Mathlib.Nat.{pow-suc}
 use lib.Dec.{ltb, leb, eqb}
 use lib.ListN.{getD}
-use Rattle.std.proofs.shelf.Ways.{tells}
 use Rattle.std.proofs.shelf.Tests.{cases-eq, eq-eqb, ne-eqb}
+use Rattle.std.proofs.shelf.Ways.{tells}
 use Rattle.raster.specs.Meaning.{replaced, withBit}
 use Rattle.block.specs.declared.column.Window.{Window}
-use Rattle.block.specs.Scramble.{scrambled, unscrambled, isOne, oneIf}
-use Rattle.block.specs.Column.{bitAt, laden, spelled}
+use Rattle.block.specs.Scramble.{scrambled, isOne, oneIf}
+use Rattle.block.specs.Column.{bitAt, laden}
 use Rattle.block.specs.Window.{among, lineTo, rowsTo}
 
 -- a bit, as a truth value and back
-pub bit-back : (d : ℕ) → d < 2 → oneIf (isOne d) ≡ d
+bit-back : (d : ℕ) → d < 2 → oneIf (isOne d) ≡ d
 bit-back d h = grind (arith, tells)
 
 pub below-two : (n : ℕ) → n % 2 < 2
@@ -28,6 +26,7 @@ below-two n = omega arith
 set-laden : (line : ℕ → ℕ) (j d : ℕ) → d < 2 → withBit (line j) (isOne (scrambled (line j) (line (j + 1)) (oneIf (isOne d)))) ≡ laden line j d
 set-laden line j d h = rw (bit-back d h, bit-back (scrambled (line j) (line (j + 1)) d) (below-two _))
 
+-- the chroma word of bit k, and the luma word after it
 module _ (first k : ℕ) where
   among-new : among first k (first + 2 * k) ≡ false
   among-new = grind (arith, tells)
@@ -41,7 +40,7 @@ module _ (first k : ℕ) where
   among-other : (j : ℕ) → (j ≡ first + 2 * k → ⊥) → among first (k + 1) j ≡ among first k j
   among-other j n = grind (arith, tells)
 
-  place-bit : (first + 2 * k - first) / 2 ≡ k
+  pub place-bit : (first + 2 * k - first) / 2 ≡ k
   place-bit = omega arith
 
 -- i is one of the first n rows from the row `first` on
@@ -71,15 +70,15 @@ module _ (at₀ at₁ at₂ : ℕ → ℕ → ℕ) (rows words r first v k : ℕ
   pub bit-more : (i j : ℕ) → i < rows → j < words → at₂ i j ≡ cond (eqb i r) (lineTo (at₀ i) first v (k + 1) j) (at₀ i j)
   bit-more i j hi hj =
       elim (cases-eq i r) [
-        inl ei ↦ elim (cases-eq j (first + 2 * k)) [
-          inl ej ↦ h₂ i j hi hj ∙ rw (ei, ej, eq-eqb r r refl, eq-eqb (first + 2 * k) (first + 2 * k) refl, among-hit first k, place-bit first k, chroma-yet, luma-yet, eb) (set-laden (at₀ r) (first + 2 * k) (bitAt v k) (below-two _))
-        | inr nj ↦
-          let u : at₂ i j ≡ at₁ i j = h₂ i j hi hj ∙ rw (ei, eq-eqb r r refl, ne-eqb j (first + 2 * k) nj) in
-          u ∙ h₁ i j hi hj ∙ rw (among-other first k j nj)
+        | inl ei ↦ elim (cases-eq j (first + 2 * k)) [
+          | inl ej ↦ h₂ i j hi hj ∙ rw (ei, ej, eq-eqb r r refl, eq-eqb (first + 2 * k) (first + 2 * k) refl, among-hit first k, place-bit first k, chroma-yet, luma-yet, eb) (set-laden (at₀ r) (first + 2 * k) (bitAt v k) (below-two _))
+          | inr nj ↦
+              let u : at₂ i j ≡ at₁ i j = h₂ i j hi hj ∙ rw (ei, eq-eqb r r refl, ne-eqb j (first + 2 * k) nj) in
+              u ∙ h₁ i j hi hj ∙ rw (among-other first k j nj)
         ]
-      | inr ni ↦
-        let u : at₂ i j ≡ at₁ i j = h₂ i j hi hj ∙ rw (ne-eqb i r ni) in
-        u ∙ h₁ i j hi hj ∙ rw (ne-eqb i r ni)
+        | inr ni ↦
+            let u : at₂ i j ≡ at₁ i j = h₂ i j hi hj ∙ rw (ne-eqb i r ni) in
+            u ∙ h₁ i j hi hj ∙ rw (ne-eqb i r ni)
       ]
 
 -- lines that agree are laden alike
@@ -101,18 +100,6 @@ module _ (at₀ at₁ at₂ : ℕ → ℕ → ℕ) (rows words : ℕ) (w : Windo
   pub row-more : (i j : ℕ) → i < rows → j < words → at₂ i j ≡ rowsTo at₀ w block (n + 1) i j
   row-more i j hi hj =
       elim (cases-eq i (w .row + n)) [
-        inl e ↦ h₂ i j hi hj ∙ rw (e, eq-eqb (w .row + n) (w .row + n) refl, just (w .row) n, index (w .row) n, ev) (line-like (at₁ (w .row + n)) (at₀ (w .row + n)) words (w .word) (getD block n 0) 16 hw row-yet j hj (among (w .word) 16 j) refl)
-      | inr ne ↦ h₂ i j hi hj ∙ rw (ne-eqb i (w .row + n) ne) (h₁ i j hi hj ∙ rw (before (w .row) n i ne))
+        | inl e ↦ h₂ i j hi hj ∙ rw (e, eq-eqb (w .row + n) (w .row + n) refl, just (w .row) n, index (w .row) n, ev) (line-like (at₁ (w .row + n)) (at₀ (w .row + n)) words (w .word) (getD block n 0) 16 hw row-yet j hj (among (w .word) 16 j) refl)
+        | inr ne ↦ h₂ i j hi hj ∙ rw (ne-eqb i (w .row + n) ne) (h₁ i j hi hj ∙ rw (before (w .row) n i ne))
       ]
-
-pub spelled-none : (line : ℕ → ℕ) (first : ℕ) → spelled line first 0 ≡ 0
-unfolding spelled
-spelled-none line first = refl
-
-pub spelled-more : (line : ℕ → ℕ) (first n : ℕ) → spelled line first (n + 1) ≡ spelled line first n * 2 + unscrambled (line (first + 2 * n)) (line (first + 2 * n + 1))
-unfolding spelled
-spelled-more line first n = rw (add-one n)
-
--- a bit more keeps below the next power
-pub doubled-below : (x b k : ℕ) → x < 2 ^ k → b < 2 → x * 2 + b < 2 ^ (k + 1)
-doubled-below x b k h hb = rw (add-one k, pow-suc 2 k) (omega arith)

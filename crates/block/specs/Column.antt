@@ -41,5 +41,5 @@ spelled line first (suc n) = spelled line first n * 2 + unscrambled (line (first
 abbrev pub carriedRow : (ℕ → ℕ → ℕ) → ℕ → ℕ → ℕ
 carriedRow at column i = spelled (at i) (32 * column) 16
 
-unfoldable pub carriedBlock : (ℕ → ℕ → ℕ) → ℕ → List ℕ
-carriedBlock at column = map (carriedRow at column) (counting 0 16)
+unfoldable pub carriedRows : (ℕ → ℕ → ℕ) → ℕ → List ℕ
+carriedRows at column = map (carriedRow at column) (counting 0 16)

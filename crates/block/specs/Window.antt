@@ -1,4 +1,4 @@
--- The window of a column, as the private functions see it: 16 rows and 32 words, kept as the numbers of the first row and the first word.
+-- What the private functions do through the window of a column, 16 rows of 32 words from a first row and a first word on.
 use Prim.Native.Nat.{ℕ, _+_, _-_, _/_, _%_, _*_, _^_, _<_, _≤_}
 use mathlib.Core.Bool.{Bool, cond, _&&_}
 use mathlib.Core.List.{List, map}
@@ -8,12 +8,12 @@ use Rattle.std.specs.Iters.{counting}
 use Rattle.block.specs.declared.column.Window.{Window}
 use Rattle.block.specs.Column.{bitAt, laden, spelled}
 
--- the window lies inside a raster, whose extent is counted in 64 bits
+-- the window lies inside a raster, and its extent fits 64 bits, so that no place in the window overflows
 pub record Lies (w : Window) (rows words : ℕ) : Type 0 where
   pub high : w .row + 16 ≤ rows
   pub wide : w .word + 32 ≤ words
-  pub few-rows : rows < 2 ^ 64
-  pub few-words : words < 2 ^ 64
+  pub rows-fit : rows < 2 ^ 64
+  pub words-fit : words < 2 ^ 64
 
 -- j is one of the first n chroma words from the word `first` on
 abbrev pub among : ℕ → ℕ → ℕ → Bool
@@ -31,5 +31,5 @@ rowsTo at w block n i j = cond (leb (w .row) i && ltb i (w .row + n)) (lineTo (a
 abbrev pub rowOf : (ℕ → ℕ → ℕ) → Window → ℕ → ℕ
 rowOf at w i = spelled (at (w .row + i)) (w .word) 16
 
-unfoldable pub blockOf : (ℕ → ℕ → ℕ) → Window → List ℕ
-blockOf at w = map (rowOf at w) (counting 0 16)
+unfoldable pub rowsOf : (ℕ → ℕ → ℕ) → Window → List ℕ
+rowsOf at w = map (rowOf at w) (counting 0 16)

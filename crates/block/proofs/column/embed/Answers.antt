@@ -17,7 +17,7 @@ returns g c =
     let rows = c .args .rows .now in
     let w : _≡_ {A = Window} (c .in-Continue-window .window) (record { row = 0; word = 32 * column }) = search needs in
     let done : (i j : ℕ) → i < m .rows s → j < m .words s → m .at t i j ≡ embedded (m .at s) column rows i j
-        = λ i j hi hj. c .embed-rows .ensures .after i j hi hj ∙ window-embeds (m .at s) (c .in-Continue-window .window) column rows i j w in
+    = λ i j hi hj. c .embed-rows .ensures .after i j hi hj ∙ window-embeds (m .at s) (c .in-Continue-window .window) column rows i j w in
     record {
       answer = search needs;
       rows = search needs;
@@ -27,7 +27,7 @@ returns g c =
       reads = λ _. reads-back (m .at s) (m .at t) (m .rows s) (m .words s) column rows (search needs) (search needs) done (c .told-rows) (c .fits-rows);
       others = others-same (m .at s) (m .at t) (m .rows s) (m .words s) column rows true done;
       only = only-low (m .at s) (m .at t) (m .rows s) (m .words s) column rows true done;
-      few = few-differ (m .at s) (m .at t) (m .rows s) (m .words s) column rows true done
+      few = few-differ (m .at s) (m .at t) (m .rows s) (m .words s) column rows true done;
     }
 
 pub returns-in-Break-window : need.returns-in-Break-window
@@ -44,5 +44,5 @@ returns-in-Break-window g c =
       reads = search needs;
       others = others-same at at rows words (c .args .column) [] false (λ i j hi hj. refl);
       only = only-low at at rows words (c .args .column) [] false (λ i j hi hj. refl);
-      few = few-differ at at rows words (c .args .column) [] false (λ i j hi hj. refl)
+      few = few-differ at at rows words (c .args .column) [] false (λ i j hi hj. refl);
     }
