@@ -23,7 +23,7 @@ pub spelled-more : (line : ℕ → ℕ) (first n : ℕ) → spelled line first (
 unfolding spelled
 spelled-more line first n = rw (add-one n)
 
--- n bits stay below the power, here of the first 15
+-- n bits stay below 2 ^ n
 spelled-pow : (line : ℕ → ℕ) (first n : ℕ) → spelled line first n < 2 ^ n
 spelled-pow line first zero = rw (spelled-none line first) (omega arith)
 spelled-pow line first (suc n) =
@@ -94,7 +94,7 @@ pub carried-is : (at : ℕ → ℕ → ℕ) (c : ℕ) (block : List ℕ) → len
 unfolding carriedRows
 carried-is at c block h rows = sym (fill-by-all (carriedRow at c) block 16 0 h (λ i l. sym (rows i l)))
 
--- are those of the column's window
+-- and they are those of its window
 pub window-rows : (at : ℕ → ℕ → ℕ) (w : Window) (c : ℕ) → w ≡ record { row = 0; word = 32 * c } → rowsOf at w ≡ carriedRows at c
 unfolding rowsOf carriedRows
 window-rows at w c e = rw e
