@@ -1,0 +1,3 @@
+pub mod Scramble
+pub mod Column
+pub mod Window
