@@ -3,6 +3,7 @@ ghost use mathlib.Core.Path.{_≡_};
 ghost use Prim.Native.Nat.{ℕ, _+_, _*_, _<_};
 ghost use Rattle.std.specs.declared.result.Result.the-variants.{Ok};
 ghost use lib.ListN.{length};
+ghost use denote.Ref.{now as behind, name};
 ghost use Rattle.raster.specs.Difference.{differing};
 ghost use Rattle.buffer.specs.Packed.{packedAt};
 ghost use Rattle.carry.specs.Stripe.{Laden, countRead};
@@ -56,11 +57,39 @@ pub fn carry_stripe(stripe: usize, before: &mut [u8], after: &mut [u8]) -> Resul
     ensures before { λ _. ⌜ now (before .exit) ≡ now (before .entry) ⌝ }
     ensures laden { λ _. ⌜ Laden stripe 1440 45 (packedAt (now (after .entry)) 1440) (packedAt (now (after .exit)) 1440) ⌝ }
 {
-    let extent = Extent { rows: 16, words: 1440 };
-    let input = PackedBuffer::new(extent, before);
-    let mut slab = PackedBuffer::new(extent, after);
-    embed_stripe(&mut slab, stripe)?;
-    let moved = count_differing(&input, &slab)?;
-    let read = count_read(&slab, stripe)?;
+    let read = embed_and_read(stripe, after)?;
+    let moved = moved_words(before, after)?;
     Ok(StripeLine { stripe, moved, read })
+}
+
+// The slab of a stripe in packed memory.
+fn slab_in(memory: &mut [u8]) -> PackedBuffer<'_>
+    requires { ⌜ length (now memory) ≡ 28800 ⌝ }
+    ensures rows { λ r. ⌜ r .extent .rows ≡ 16 ⌝ }
+    ensures words { λ r. ⌜ r .extent .words ≡ 1440 ⌝ }
+    ensures value { λ r. ⌜ behind (r .memory) ≡ now (memory .entry) ⌝ }
+    ensures name { λ r. ⌜ name (r .memory) ≡ name (memory .entry) ⌝ }
+{
+    PackedBuffer::new(Extent { rows: 16, words: 1440 }, memory)
+}
+
+fn embed_and_read(stripe: usize, memory: &mut [u8]) -> Result<usize, Fault>
+    requires { ⌜ stripe < 3 ⌝ ∗ ⌜ length (now memory) ≡ 28800 ⌝ }
+    ensures answer { λ r. ⌜ r ≡ Ok 45 ⌝ }
+    ensures laden { λ _. ⌜ Laden stripe 1440 45 (packedAt (now (memory .entry)) 1440) (packedAt (now (memory .exit)) 1440) ⌝ }
+{
+    let mut slab = slab_in(memory);
+    embed_stripe(&mut slab, stripe)?;
+    count_read(&slab, stripe)
+}
+
+fn moved_words(before: &mut [u8], after: &mut [u8]) -> Result<u128, Fault>
+    requires { ⌜ length (now before) ≡ 28800 ⌝ ∗ ⌜ length (now after) ≡ 28800 ⌝ }
+    ensures answer { λ r. ⌜ r ≡ Ok (differing (packedAt (now (before .entry)) 1440) (packedAt (now (after .entry)) 1440) 16 1440) ⌝ }
+    ensures before { λ _. ⌜ now (before .exit) ≡ now (before .entry) ⌝ }
+    ensures after { λ _. ⌜ now (after .exit) ≡ now (after .entry) ⌝ }
+{
+    let input = slab_in(before);
+    let output = slab_in(after);
+    count_differing(&input, &output)
 }
