@@ -1,8 +1,49 @@
 // Carries numbers through a bench picture: embeds them in three packed slabs, reads them back, and says what moved.
+ghost use mathlib.Core.Path.{_≡_};
+ghost use Rattle.std.specs.Of.Vec.{vec-len};
+ghost use Rattle.std.specs.Vec.{made};
+use fault::FaultError;
+use line::StripeLineDisplay;
+use std::env;
+use std::error::AnyError;
+use std::fs;
+use std::io;
+use std::io::Read;
+use stripe::carry_stripe;
+
 mod line;
 mod pattern;
 mod stripe;
 
-fn main(rt: LibcRuntime) {
-    let _ = rt;
+const STRIPES: usize = 3;
+const SLAB_BYTES: usize = 28800;
+
+fn main(rt: LibcRuntime) -> Result<(), AnyError> {
+    rt.report(run(&rt))
+}
+
+// With a file name as its argument, the slabs are written there.
+fn run(rt: &LibcRuntime) -> Result<(), AnyError> {
+    let mut picture = Vec::new(rt.alloc());
+    for stripe in 0..STRIPES {
+        let mut before = read_slab(rt)?;
+        let mut after = before.clone()?;
+        let line = carry_stripe(stripe, &mut before, &mut after)?;
+        println!(rt, "{line}")?;
+        picture.extend_from_slice(&after)?;
+    }
+    if let Some(name) = env::args(rt)?.nth(1) {
+        fs::write(rt, name.as_str(), picture.as_slice())?;
+    }
+    Ok(())
+}
+
+// The next slab of standard input; bytes that are missing count as 0.
+fn read_slab(rt: &LibcRuntime) -> io::Result<Vec<u8>>
+    ensures { λ r. ⌜ made r (λ v. vec-len v ≡ 28800) ⌝ }
+{
+    let mut slab = Vec::new(rt.alloc());
+    rt.stdin().take(SLAB_BYTES as u64).read_to_end(&mut slab)?;
+    slab.resize(SLAB_BYTES, 0)?;
+    Ok(slab)
 }
