@@ -1,0 +1,5 @@
+// Worked examples, as tests: published values, and a pile of layers over packed memory.
+#[cfg(test)]
+mod piles;
+#[cfg(test)]
+mod values;
