@@ -28,17 +28,17 @@ module _ (m : List ℕ) (k v : ℕ) (b : Bool) (ev : v ≡ withBit (getD m k 0) 
   pub set-cell : (w r p i j : ℕ) → k ≡ r * w + p → p < w → j < w → cellWord (set m k v) w i j ≡ replaced (cellWord m w) r p b i j
   set-cell w r p i j ek hp hj =
       elim (cases-eq (i * w + j) k) [
-        inl e ↦ let q = row-of w i j r p hj hp (e ∙ ek) in rw (e, q .0, q .1, eq-eqb r r refl, eq-eqb p p refl, getD-set-same m k v 0 hk, ev) (bit-of-ten (getD m k 0) b)
-      | inr n ↦ rw (getD-set-other m k (i * w + j) v 0 n) (grind (arith, tells))
+        | inl e ↦ let q = row-of w i j r p hj hp (e ∙ ek) in rw (e, q .0, q .1, eq-eqb r r refl, eq-eqb p p refl, getD-set-same m k v 0 hk, ev) (bit-of-ten (getD m k 0) b)
+        | inr n ↦ rw (getD-set-other m k (i * w + j) v 0 n) (grind (arith, tells))
       ]
 
   -- nothing but bit 0 of one cell below n moves
   pub set-kept : (n : ℕ) → k < n → CellsKept n m (set m k v)
   set-kept n h = record {
-      long = length-set m k v;
-      upper = λ i. elim (cases-eq i k) [ inl e ↦ rw (e, getD-set-same m k v 0 hk, ev) (bit-above (getD m k 0) b) | inr d ↦ rw (getD-set-other m k i v 0 d) ];
-      past = λ i hi. getD-set-other m k i v 0 (λ e. omega arith)
-    }
+    long = length-set m k v;
+    upper = λ i. elim (cases-eq i k) [ inl e ↦ rw (e, getD-set-same m k v 0 hk, ev) (bit-above (getD m k 0) b) | inr d ↦ rw (getD-set-other m k i v 0 d) ];
+    past = λ i hi. getD-set-other m k i v 0 (λ e. omega arith);
+  }
 
 -- the whole memory after an accepted set
 pub set-after : (m : List ℕ) (k v : ℕ) (b : Bool) (rows w r p : ℕ) → k ≡ r * w + p → v ≡ withBit (getD m k 0) b → r < rows → p < w → set m k v ≡ cellsAfter m rows w r p b

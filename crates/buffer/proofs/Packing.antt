@@ -49,13 +49,15 @@ word-across m g q h =
     let n3 : g * 5 + 1 + 2 ≡ g * 5 + 3 = omega arith in
     let n4 : g * 5 + 1 + 3 ≡ g * 5 + 4 = omega arith in
     elim (four q h) [
-      inl z ↦ rw (z, n0, n1) (across-0 (byteAt m (g * 5)) (byteAt m (g * 5 + 1)) (byteAt m (g * 5 + 2)) (byteAt m (g * 5 + 3)) (byteAt m (g * 5 + 4)) b0 b1 b2 b3 b4)
-    | inr o ↦ elim o [
-      inl z ↦ rw (z, n2) (across-1 (byteAt m (g * 5)) (byteAt m (g * 5 + 1)) (byteAt m (g * 5 + 2)) (byteAt m (g * 5 + 3)) (byteAt m (g * 5 + 4)) b0 b1 b2 b3 b4)
-    | inr u ↦ elim u [
-      inl z ↦ rw (z, n3) (across-2 (byteAt m (g * 5)) (byteAt m (g * 5 + 1)) (byteAt m (g * 5 + 2)) (byteAt m (g * 5 + 3)) (byteAt m (g * 5 + 4)) b0 b1 b2 b3 b4)
-    | inr z ↦ rw (z, n4) (across-3 (byteAt m (g * 5)) (byteAt m (g * 5 + 1)) (byteAt m (g * 5 + 2)) (byteAt m (g * 5 + 3)) (byteAt m (g * 5 + 4)) b0 b1 b2 b3 b4)
-    ] ] ]
+      | inl z ↦ rw (z, n0, n1) (across-0 (byteAt m (g * 5)) (byteAt m (g * 5 + 1)) (byteAt m (g * 5 + 2)) (byteAt m (g * 5 + 3)) (byteAt m (g * 5 + 4)) b0 b1 b2 b3 b4)
+      | inr o ↦ elim o [
+        | inl z ↦ rw (z, n2) (across-1 (byteAt m (g * 5)) (byteAt m (g * 5 + 1)) (byteAt m (g * 5 + 2)) (byteAt m (g * 5 + 3)) (byteAt m (g * 5 + 4)) b0 b1 b2 b3 b4)
+        | inr u ↦ elim u [
+          | inl z ↦ rw (z, n3) (across-2 (byteAt m (g * 5)) (byteAt m (g * 5 + 1)) (byteAt m (g * 5 + 2)) (byteAt m (g * 5 + 3)) (byteAt m (g * 5 + 4)) b0 b1 b2 b3 b4)
+          | inr z ↦ rw (z, n4) (across-3 (byteAt m (g * 5)) (byteAt m (g * 5 + 1)) (byteAt m (g * 5 + 2)) (byteAt m (g * 5 + 3)) (byteAt m (g * 5 + 4)) b0 b1 b2 b3 b4)
+        ]
+      ]
+    ]
 
 -- Replacing the bit that a word ends with replaces its bit 0, stays within a byte, and is not seen by the next word.
 own-bit : (q x y : ℕ) (b : Bool) → q < 4 → across q x (withUnit y (unitOf q) b) ≡ withBit (across q x y) b
@@ -106,21 +108,21 @@ module _ (m : List ℕ) (n h v : ℕ) (b : Bool) (eh : h ≡ homeOf n) (ev : v �
       let y : byteAt (set m h v) (k / 4 * 5 + 1 + k % 4) ≡ byteAt m (k / 4 * 5 + 1 + k % 4) = away (k / 4 * 5 + 1 + k % 4) (λ e. d (omega arith)) in
       word-across (set m h v) (k / 4) (k % 4) (omega arith)
       ∙ elim (cases-eq (k / 4 * 5 + k % 4) h) [
-          inl e ↦
+        | inl e ↦
             let f = follower n k (e ∙ eh) in
             let x : byteAt (set m h v) (k / 4 * 5 + k % 4) ≡ withUnit (byteAt m (k / 4 * 5 + k % 4)) (unitOf (n % 4)) b = ap (byteAt (set m h v)) e ∙ home ∙ ap (λ i. withUnit (byteAt m i) (unitOf (n % 4)) b) (sym e) in
             rw (x, y) (ap (λ q. across q (withUnit (byteAt m (k / 4 * 5 + k % 4)) (unitOf (n % 4)) b) (byteAt m (k / 4 * 5 + 1 + k % 4))) (f .1)
-              ∙ next-word (n % 4) (byteAt m (k / 4 * 5 + k % 4)) (byteAt m (k / 4 * 5 + 1 + k % 4)) b (f .2)
-              ∙ ap (λ q. across q (byteAt m (k / 4 * 5 + k % 4)) (byteAt m (k / 4 * 5 + 1 + k % 4))) (sym (f .1)))
+            ∙ next-word (n % 4) (byteAt m (k / 4 * 5 + k % 4)) (byteAt m (k / 4 * 5 + 1 + k % 4)) b (f .2)
+            ∙ ap (λ q. across q (byteAt m (k / 4 * 5 + k % 4)) (byteAt m (k / 4 * 5 + 1 + k % 4))) (sym (f .1)))
         | inr o ↦ rw (away (k / 4 * 5 + k % 4) o, y)
-        ]
+      ]
       ∙ sym (word-across m (k / 4) (k % 4) (omega arith))
 
   every-word : (k : ℕ) → packedWord (set m h v) k ≡ cond (eqb k n) (withBit (packedWord m n) b) (packedWord m k)
   every-word k =
       elim (cases-eq k n) [
-        inl e ↦ let t : eqb k n ≡ true = grind (arith, tells) in rw (t, e) own-word
-      | inr d ↦ let t : eqb k n ≡ false = grind (arith, tells) in rw t (other-word k d)
+        | inl e ↦ let t : eqb k n ≡ true = grind (arith, tells) in rw (t, e) own-word
+        | inr d ↦ let t : eqb k n ≡ false = grind (arith, tells) in rw t (other-word k d)
       ]
 
   -- every word after the set
@@ -135,10 +137,10 @@ module _ (m : List ℕ) (n h v : ℕ) (b : Bool) (eh : h ≡ homeOf n) (ev : v �
   -- nothing but bit 0 of one word moves, in a byte below e
   pub packed-kept : (e : ℕ) → h < e → BytesKept e m (set m h v)
   packed-kept e he = record {
-      long = length-set m h v;
-      upper = λ k. elim (cases-eq k n) [ inl z ↦ rw z (ap (λ x. x / 2) own-word ∙ bit-above (packedWord m n) b) | inr d ↦ ap (λ x. x / 2) (other-word k d) ];
-      past = λ i hi. getD-set-other m h i v 0 (λ z. omega arith)
-    }
+    long = length-set m h v;
+    upper = λ k. elim (cases-eq k n) [ inl z ↦ rw z (ap (λ x. x / 2) own-word ∙ bit-above (packedWord m n) b) | inr d ↦ ap (λ x. x / 2) (other-word k d) ];
+    past = λ i hi. getD-set-other m h i v 0 (λ z. omega arith);
+  }
 
 -- the whole memory after an accepted set
 pub packed-after : (m : List ℕ) (n h v : ℕ) (b : Bool) (rows w r p : ℕ) → n ≡ r * w + p → h ≡ homeOf n → v ≡ withUnit (byteAt m h) (unitOf (n % 4)) b → r < rows → p < w → set m h v ≡ bytesAfter m rows w r p b

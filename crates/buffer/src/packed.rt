@@ -42,7 +42,10 @@ impl<'a> PackedBuffer<'a> {
     {
         match PackedBuffer::check_size(extent, memory.len()) {
             Ok(()) => PackedBuffer { extent, memory },
-            Err(_) => PackedBuffer { extent: Extent { rows: 0, words: 0 }, memory },
+            Err(_) => PackedBuffer {
+                extent: Extent { rows: 0, words: 0 },
+                memory,
+            },
         }
     }
 
@@ -70,11 +73,17 @@ impl<'a> PackedBuffer<'a> {
 
 pub impl<'a> Raster for PackedBuffer<'a> as PackedRaster {
     ghost rows = { λ s. s .extent .rows };
+
     ghost words = { λ s. s .extent .words };
+
     ghost at = { λ s. packedAt (behind (s .memory)) (s .extent .words) };
+
     ghost ten = { λ s i j. packed-ten (behind (s .memory)) (i * s .extent .words + j) };
+
     ghost kept = { λ s t. (t .extent ≡ s .extent) × (name (t .memory) ≡ name (s .memory)) × BytesKept (bytesOf (s .extent)) (behind (s .memory)) (behind (t .memory)) };
+
     ghost still = { λ s. (refl, refl, bytes-still (bytesOf (s .extent)) (behind (s .memory))) };
+
     ghost onward = { λ s t u p q. (q .0 ∙ p .0, q .1 ∙ p .1, bytes-onward (p .2) (subst (λ e. BytesKept (bytesOf e) (behind (t .memory)) (behind (u .memory))) (p .0) (q .2))) };
 
     fn extent(&self) -> Extent {

@@ -11,7 +11,11 @@ use raster::Extent;
 pub(crate) fn is_lawful(extent: Extent) -> bool
     ensures { λ r. ⌜ r ≡ lawful extent ⌝ }
 {
-    extent.rows >= 1 && extent.rows <= 1088 && extent.words >= 4 && extent.words <= 3840 && extent.words % 4 == 0
+    extent.rows >= 1
+        && extent.rows <= 1088
+        && extent.words >= 4
+        && extent.words <= 3840
+        && extent.words % 4 == 0
 }
 
 // The number of the word at a row and a place, counted along the rows.

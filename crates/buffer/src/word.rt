@@ -41,7 +41,10 @@ impl<'a> WordBuffer<'a> {
     {
         match WordBuffer::check_size(extent, memory.len()) {
             Ok(()) => WordBuffer { extent, memory },
-            Err(_) => WordBuffer { extent: Extent { rows: 0, words: 0 }, memory },
+            Err(_) => WordBuffer {
+                extent: Extent { rows: 0, words: 0 },
+                memory,
+            },
         }
     }
 
@@ -58,11 +61,17 @@ impl<'a> WordBuffer<'a> {
 
 pub impl<'a> Raster for WordBuffer<'a> as WordRaster {
     ghost rows = { λ s. s .extent .rows };
+
     ghost words = { λ s. s .extent .words };
+
     ghost at = { λ s. cellWord (behind (s .memory)) (s .extent .words) };
+
     ghost ten = { λ s i j. ten-bits (getD (behind (s .memory)) (i * s .extent .words + j) 0) };
+
     ghost kept = { λ s t. (t .extent ≡ s .extent) × (name (t .memory) ≡ name (s .memory)) × CellsKept (cellsOf (s .extent)) (behind (s .memory)) (behind (t .memory)) };
+
     ghost still = { λ s. (refl, refl, cells-still (cellsOf (s .extent)) (behind (s .memory))) };
+
     ghost onward = { λ s t u p q. (q .0 ∙ p .0, q .1 ∙ p .1, cells-onward (p .2) (subst (λ e. CellsKept (cellsOf e) (behind (t .memory)) (behind (u .memory))) (p .0) (q .2))) };
 
     fn extent(&self) -> Extent {

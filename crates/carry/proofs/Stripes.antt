@@ -31,11 +31,11 @@ module _ (stripe words n : ℕ) (at₀ at₁ at₂ : ℕ → ℕ → ℕ) (wide 
     (only : (i j : ℕ) → i < 16 → j < words → (at₂ i j / 2 ≡ at₁ i j / 2) × (carrying n i j ≡ false → at₂ i j ≡ at₁ i j)) where
   pub one-laden : Laden stripe words (n + 1) at₀ at₂
   one-laden = record {
-      carries = λ c h. elim (cases-eq c n) [ inl e ↦ rw e reads | inr d ↦ others c d (omega arith) ∙ before .carries c (omega arith) ];
-      upper = λ i j hi hj. only i j hi hj .0 ∙ before .upper i j hi hj;
-      luma = λ i j hi hj h. only i j hi hj .1 (luma-stays n i j h) ∙ before .luma i j hi hj h;
-      rest = λ i j hi hj h. only i j hi hj .1 (rest-stays n i j h) ∙ before .rest i j hi hj (omega arith)
-    }
+    carries = λ c h. elim (cases-eq c n) [ inl e ↦ rw e reads | inr d ↦ others c d (omega arith) ∙ before .carries c (omega arith) ];
+    upper = λ i j hi hj. only i j hi hj .0 ∙ before .upper i j hi hj;
+    luma = λ i j hi hj h. only i j hi hj .1 (luma-stays n i j h) ∙ before .luma i j hi hj h;
+    rest = λ i j hi hj h. only i j hi hj .1 (rest-stays n i j h) ∙ before .rest i j hi hj (omega arith);
+  }
 
 pub count-none : (at : ℕ → ℕ → ℕ) (stripe : ℕ) → countRead at stripe 0 ≡ 0
 unfolding countRead

@@ -16,6 +16,7 @@ mod pattern;
 mod stripe;
 
 const STRIPES: usize = 3;
+
 const SLAB_BYTES: usize = 28800;
 
 fn main(rt: LibcRuntime) -> Result<(), AnyError> {

@@ -59,7 +59,11 @@ pub fn carry_stripe(stripe: usize, before: &mut [u8], after: &mut [u8]) -> Resul
 {
     let read = embed_and_read(stripe, after)?;
     let moved = moved_words(before, after)?;
-    Ok(StripeLine { stripe, moved, read })
+    Ok(StripeLine {
+        stripe,
+        moved,
+        read,
+    })
 }
 
 // The slab of a stripe in packed memory.
@@ -70,7 +74,13 @@ fn slab_in(memory: &mut [u8]) -> PackedBuffer<'_>
     ensures value { λ r. ⌜ behind (r .memory) ≡ now (memory .entry) ⌝ }
     ensures name { λ r. ⌜ name (r .memory) ≡ name (memory .entry) ⌝ }
 {
-    PackedBuffer::new(Extent { rows: 16, words: 1440 }, memory)
+    PackedBuffer::new(
+        Extent {
+            rows: 16,
+            words: 1440,
+        },
+        memory,
+    )
 }
 
 fn embed_and_read(stripe: usize, memory: &mut [u8]) -> Result<usize, Fault>

@@ -19,8 +19,8 @@ use Rattle.layer.specs.Window.{shownOf, Around}
 untouched : (at : ℕ → ℕ → ℕ) (r p : ℕ) (b : Bool) (i j : ℕ) → ((i ≡ r) × (j ≡ p) → ⊥) → replaced at r p b i j ≡ at i j
 untouched at r p b i j d =
     elim (cases-eq i r) [
-      inl e ↦ elim (cases-eq j p) [ inl f ↦ absurd (d (e, f)) | inr n ↦ grind (arith, tells) ]
-    | inr n ↦ grind (arith, tells)
+      | inl e ↦ elim (cases-eq j p) [ inl f ↦ absurd (d (e, f)) | inr n ↦ grind (arith, tells) ]
+      | inr n ↦ grind (arith, tells)
     ]
 
 -- what was answered inside is answered of any extent that holds the place

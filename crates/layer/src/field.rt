@@ -55,16 +55,25 @@ impl<R: Raster> Field<R> {
 
 pub impl<R: Raster> Raster for Field<R> as FieldRaster {
     ghost rows = { λ s. fieldRows (s .kind) (R·Raster .rows (s .below)) };
+
     ghost words = { λ s. R·Raster .words (s .below) };
+
     ghost at = { λ s i j. R·Raster .at (s .below) (rowBelow (s .kind) i) j };
+
     ghost ten = { λ s i j. R·Raster .ten (s .below) (rowBelow (s .kind) i) j };
+
     ghost kept = { λ s t. (t .kind ≡ s .kind) × (R·Raster .rows (t .below) ≡ R·Raster .rows (s .below)) × (R·Raster .words (t .below) ≡ R·Raster .words (s .below)) × R·Raster .kept (s .below) (t .below) × OtherField (s .kind) (R·Raster .rows (s .below)) (R·Raster .words (s .below)) (R·Raster .at (s .below)) (R·Raster .at (t .below)) };
+
     ghost still = { λ s. (refl, refl, refl, R·Raster .still (s .below), λ i j _ _ _. refl) };
+
     ghost onward = { λ s t u p q. (q .0 ∙ p .0, q .1 ∙ p .1, q .2 ∙ p .2, R·Raster .onward (s .below) (t .below) (u .below) (p .3) (q .3), other-onward (p .0) (p .1) (p .2) (p .4) (q .4)) };
 
     fn extent(&self) -> Extent {
         let whole = self.below.extent();
-        Extent { rows: self.kind.rows_of(whole.rows), words: whole.words }
+        Extent {
+            rows: self.kind.rows_of(whole.rows),
+            words: whole.words,
+        }
     }
 
     fn look(&self, row: usize, place: usize) -> Result<u16, Fault> {

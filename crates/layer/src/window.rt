@@ -45,7 +45,13 @@ impl<R: Raster> Window<R> {
     }
 
     // Sets in the raster below, at the spot that a row and a place of the window are.
-    fn set_below(&mut self, spot: (usize, usize), row: usize, place: usize, bit: bool) -> Result<(), Fault>
+    fn set_below(
+        &mut self,
+        spot: (usize, usize),
+        row: usize,
+        place: usize,
+        bit: bool,
+    ) -> Result<(), Fault>
         requires { ⌜ Ok spot ≡ answered (shownOf (R·Raster .rows (now self .below)) (now self .frame .top) (now self .frame .size .rows)) (shownOf (R·Raster .words (now self .below)) (now self .frame .left) (now self .frame .size .words)) row place (now self .frame .top + row, now self .frame .left + place) ⌝ }
         ensures answer { λ r. ⌜ r ≡ Ok tt ⌝ }
         ensures frame { λ _. ⌜ now (self .exit) .frame ≡ now (self .entry) .frame ⌝ }
@@ -60,11 +66,17 @@ impl<R: Raster> Window<R> {
 
 pub impl<R: Raster> Raster for Window<R> as WindowRaster {
     ghost rows = { λ s. shownOf (R·Raster .rows (s .below)) (s .frame .top) (s .frame .size .rows) };
+
     ghost words = { λ s. shownOf (R·Raster .words (s .below)) (s .frame .left) (s .frame .size .words) };
+
     ghost at = { λ s i j. R·Raster .at (s .below) (s .frame .top + i) (s .frame .left + j) };
+
     ghost ten = { λ s i j. R·Raster .ten (s .below) (s .frame .top + i) (s .frame .left + j) };
+
     ghost kept = { λ s t. (t .frame ≡ s .frame) × (R·Raster .rows (t .below) ≡ R·Raster .rows (s .below)) × (R·Raster .words (t .below) ≡ R·Raster .words (s .below)) × R·Raster .kept (s .below) (t .below) × Around (s .frame .top) (s .frame .left) (s .frame .size) (R·Raster .rows (s .below)) (R·Raster .words (s .below)) (R·Raster .at (s .below)) (R·Raster .at (t .below)) };
+
     ghost still = { λ s. (refl, refl, refl, R·Raster .still (s .below), λ i j _ _ _. refl) };
+
     ghost onward = { λ s t u p q. (q .0 ∙ p .0, q .1 ∙ p .1, q .2 ∙ p .2, R·Raster .onward (s .below) (t .below) (u .below) (p .3) (q .3), around-onward (s .frame .top) (s .frame .left) (s .frame .size) (p .1) (p .2) (p .4) (subst (λ f. Around (f .top) (f .left) (f .size) (R·Raster .rows (t .below)) (R·Raster .words (t .below)) (R·Raster .at (t .below)) (R·Raster .at (u .below))) (p .0) (q .4))) };
 
     fn extent(&self) -> Extent {

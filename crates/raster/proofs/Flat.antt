@@ -15,13 +15,13 @@ use Rattle.raster.specs.Meaning.{inside, answered, replaced, withBit}
 -- two places along the rows are one only at the same row and place
 pub row-of : (w i j r p : ℕ) → j < w → p < w → i * w + j ≡ r * w + p → (i ≡ r) × (j ≡ p)
 row-of w i j r p hj hp e =
-    (sym (div-mul-add i w j hj) ∙ ap (λ n. n / w) e ∙ div-mul-add r w p hp , sym (mod-mul-add i w j hj) ∙ ap (λ n. n % w) e ∙ mod-mul-add r w p hp)
+    (sym (div-mul-add i w j hj) ∙ ap (λ n. n / w) e ∙ div-mul-add r w p hp, sym (mod-mul-add i w j hj) ∙ ap (λ n. n % w) e ∙ mod-mul-add r w p hp)
 
 pub same-place : (w i j r p : ℕ) → j < w → p < w → eqb (i * w + j) (r * w + p) ≡ (eqb i r && eqb j p)
 same-place w i j r p hj hp =
     elim (cases-eq (i * w + j) (r * w + p)) [
-      inl e ↦ let q = row-of w i j r p hj hp e in rw (e, eq-eqb (r * w + p) (r * w + p) refl, q .0, q .1, eq-eqb r r refl, eq-eqb p p refl)
-    | inr n ↦ grind (arith, tells)
+      | inl e ↦ let q = row-of w i j r p hj hp e in rw (e, eq-eqb (r * w + p) (r * w + p) refl, q .0, q .1, eq-eqb r r refl, eq-eqb p p refl)
+      | inr n ↦ grind (arith, tells)
     ]
 
 -- what was answered lies inside
@@ -35,6 +35,6 @@ is-inside rows words r p hr hp = grind (arith, tells)
 pub replaced-at : (at : ℕ → ℕ → ℕ) (r p : ℕ) (b : Bool) (i j : ℕ) → cond (eqb i r && eqb j p) (withBit (at r p) b) (at i j) ≡ replaced at r p b i j
 replaced-at at r p b i j =
     elim (cases-eq i r) [
-      inl e ↦ elim (cases-eq j p) [ inl d ↦ rw (e, d) | inr n ↦ grind (arith, tells) ]
-    | inr n ↦ grind (arith, tells)
+      | inl e ↦ elim (cases-eq j p) [ inl d ↦ rw (e, d) | inr n ↦ grind (arith, tells) ]
+      | inr n ↦ grind (arith, tells)
     ]

@@ -22,7 +22,12 @@ pub fn count_differing<P: Raster, Q: Raster>(a: &P, b: &Q) -> Result<u128, Fault
     Ok(count)
 }
 
-fn differing_in_row<P: Raster, Q: Raster>(a: &P, b: &Q, row: usize, words: usize) -> Result<usize, Fault>
+fn differing_in_row<P: Raster, Q: Raster>(
+    a: &P,
+    b: &Q,
+    row: usize,
+    words: usize,
+) -> Result<usize, Fault>
     requires { ⌜ row < P·Raster .rows (now a) ⌝ ∗ ⌜ words ≤ P·Raster .words (now a) ⌝ ∗ ⌜ row < Q·Raster .rows (now b) ⌝ ∗ ⌜ words ≤ Q·Raster .words (now b) ⌝ }
     ensures few { λ r. ⌜ made r (λ n. n ≤ words) ⌝ }
     ensures answer { λ r. ⌜ r ≡ Ok (differingWords (P·Raster .at (now (a .entry)) row) (Q·Raster .at (now (b .entry)) row) words) ⌝ }

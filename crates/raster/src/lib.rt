@@ -19,14 +19,19 @@ pub use lent::LentRaster;
 pub trait Raster {
     // Its extent, and the word at a row and a place, which says something inside the extent only.
     ghost rows: { Self → ℕ };
+
     ghost words: { Self → ℕ };
+
     ghost at: { Self → ℕ → ℕ → ℕ };
+
     ghost ten: { (x : Self) (i j : ℕ) → at x i j < 1024 };
 
     // The frame: from the first to the second, all is the same that the raster has and does not show, which is
     // the loans it holds, the other bits of its memory, and the words below it that lie outside it.
     ghost kept: { Self → Self → Type 0 };
+
     ghost still: { (x : Self) → kept x x };
+
     ghost onward: { (x y z : Self) → kept x y → kept y z → kept x z };
 
     fn extent(&self) -> Extent

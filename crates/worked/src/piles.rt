@@ -19,6 +19,7 @@ use std::test::*;
 
 // The buffer, and the part of it that the window shows: rows 1 to 5 and words 3 to 7, since no row 6 and no word 8 is there.
 const BELOW: Extent = Extent { rows: 6, words: 8 };
+
 const FRAME: Frame = Frame {
     top: 1,
     left: 3,
@@ -40,8 +41,20 @@ fn set_through(memory: &mut [u8], kind: FieldKind, extent: Extent) -> Result<(),
     let mut packed = PackedBuffer::new(BELOW, memory);
     let mut pile = Field::new(Window::new(&mut packed, FRAME), kind);
     check_eq(pile.extent(), extent)?;
-    check_eq(pile.set(extent.rows, 2, true), Err(Fault::Outside { row: extent.rows, word: 2 }))?;
-    check_eq(pile.look(0, extent.words), Err(Fault::Outside { row: 0, word: extent.words }))?;
+    check_eq(
+        pile.set(extent.rows, 2, true),
+        Err(Fault::Outside {
+            row: extent.rows,
+            word: 2,
+        }),
+    )?;
+    check_eq(
+        pile.look(0, extent.words),
+        Err(Fault::Outside {
+            row: 0,
+            word: extent.words,
+        }),
+    )?;
     set_all(&mut pile, true)?;
     Ok(())
 }

@@ -41,7 +41,13 @@ fn fill(memory: &mut [u16]) {
 fn ones_through_a_column() -> Result<(), Fail> {
     let mut memory = [0u16; 512];
     fill(&mut memory);
-    let mut slab = WordBuffer::new(Extent { rows: 16, words: 32 }, &mut memory);
+    let mut slab = WordBuffer::new(
+        Extent {
+            rows: 16,
+            words: 32,
+        },
+        &mut memory,
+    );
     embed(&mut slab, 0, &[0xffff; 16])?;
     check_eq(carried(&slab, 0)?, [0xffff; 16])?;
     check_eq(embed(&mut slab, 1, &[0; 16]), Err(Fault::NotInFormat))?;

@@ -13,6 +13,6 @@ add-result c = omega (arith, mul-add-lt (c .args .row) (c .args .extent .words) 
 
 pub returns-then-place-extent : need.returns-then-place-extent
 returns-then-place-extent c = record {
-    answer = search needs;
-    within = record { number = refl; in-rows = search needs; in-words = search needs; below = omega (arith, mul-add-lt (c .args .row) (c .args .extent .words) (c .args .place) (c .args .extent .rows) (omega arith) (omega arith)) }
-  }
+  answer = search needs;
+  within = record { number = refl; in-rows = search needs; in-words = search needs; below = omega (arith, mul-add-lt (c .args .row) (c .args .extent .words) (c .args .place) (c .args .extent .rows) (omega arith) (omega arith)) };
+}

@@ -21,8 +21,8 @@ loop-column-again g c =
     let more = count-more at (c .args .stripe) n in
     let rows = from-within (g .R·Raster .rows (c .args .slab .now)) (g .R·Raster .words (c .args .slab .now)) n (carriedRows at n) (c .in-Continue-rows .rows) (c .in-Continue-rows .ensures tt) in
     let test : c .eq .result ≡ equalRows (carriedRows at n) (patternOf (position (c .args .stripe) n)) =
-        rows-test _ _ (c .eq .result) (matches-decides _ _ _ (c .eq .ensures)) ∙ rw (rows, c .pattern .ensures) in
+    rows-test _ _ (c .eq .result) (matches-decides _ _ _ (c .eq .ensures)) ∙ rw (rows, c .pattern .ensures) in
     elim (c .if-eq .came) [
-      then-eq w ↦ let t : equalRows (carriedRows at n) (patternOf (position (c .args .stripe) n)) ≡ true = sym test ∙ w .if-eq .taken in (w .read-is ∙ sym (more ∙ rw t (ap (λ x. x + 1) (sym (c .loop-column .inv .0)))), omega (arith, w .read-is))
-    | else-eq w ↦ let t : equalRows (carriedRows at n) (patternOf (position (c .args .stripe) n)) ≡ false = sym test ∙ w .if-eq .left in (w .read-is ∙ sym (more ∙ rw t (omega arith)), omega (arith, w .read-is))
+      | then-eq w ↦ let t : equalRows (carriedRows at n) (patternOf (position (c .args .stripe) n)) ≡ true = sym test ∙ w .if-eq .taken in (w .read-is ∙ sym (more ∙ rw t (ap (λ x. x + 1) (sym (c .loop-column .inv .0)))), omega (arith, w .read-is))
+      | else-eq w ↦ let t : equalRows (carriedRows at n) (patternOf (position (c .args .stripe) n)) ≡ false = sym test ∙ w .if-eq .left in (w .read-is ∙ sym (more ∙ rw t (omega arith)), omega (arith, w .read-is))
     ]

@@ -13,5 +13,5 @@ returns c =
     record {
       answer = c .index .ensures .answer;
       within = made-weaker (c .index .result) _ _ (λ n i. omega (arith, in-bytes (s .extent .rows) (s .extent .words) (s .fours) .1 n (i .below), s .room)) (c .index .ensures .within);
-      numbered = c .index .ensures .within
+      numbered = c .index .ensures .within;
     }

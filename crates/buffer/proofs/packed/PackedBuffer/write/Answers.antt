@@ -20,8 +20,8 @@ returns c =
       extent = refl;
       name = refl;
       bytes = record {
-          whole = packed-after m (a .n) h (c .with-unit .result) (a .bit) (s .extent .rows) (s .extent .words) (a .row) (a .place) (c .pre .numbered .number) refl (c .with-unit .ensures) (c .pre .numbered .in-rows) (c .pre .numbered .in-words);
-          kept = packed-kept m (a .n) h (c .with-unit .result) (a .bit) refl (c .with-unit .ensures) hl (bytesOf (s .extent)) he;
-          after = λ x y hx hy. set-packed m (a .n) h (c .with-unit .result) (a .bit) refl (c .with-unit .ensures) hl (s .extent .words) (a .row) (a .place) x y (c .pre .numbered .number) (c .pre .numbered .in-words) hy
-        }
+        whole = packed-after m (a .n) h (c .with-unit .result) (a .bit) (s .extent .rows) (s .extent .words) (a .row) (a .place) (c .pre .numbered .number) refl (c .with-unit .ensures) (c .pre .numbered .in-rows) (c .pre .numbered .in-words);
+        kept = packed-kept m (a .n) h (c .with-unit .result) (a .bit) refl (c .with-unit .ensures) hl (bytesOf (s .extent)) he;
+        after = λ x y hx hy. set-packed m (a .n) h (c .with-unit .result) (a .bit) refl (c .with-unit .ensures) hl (s .extent .words) (a .row) (a .place) x y (c .pre .numbered .number) (c .pre .numbered .in-words) hy;
+      };
     }

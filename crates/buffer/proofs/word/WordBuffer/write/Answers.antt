@@ -15,8 +15,8 @@ returns c =
       extent = refl;
       name = refl;
       cells = record {
-          whole = set-after (s .memory .now) (a .i) (c .with-bit .result) (a .bit) (s .extent .rows) (s .extent .words) (a .row) (a .place) (c .pre .number) (c .with-bit .ensures) (c .pre .in-rows) (c .pre .in-words);
-          kept = set-kept (s .memory .now) (a .i) (c .with-bit .result) (a .bit) (c .with-bit .ensures) h _ (c .pre .below);
-          after = λ x y hx hy. set-cell (s .memory .now) (a .i) (c .with-bit .result) (a .bit) (c .with-bit .ensures) h (s .extent .words) (a .row) (a .place) x y (c .pre .number) (c .pre .in-words) hy
-        }
+        whole = set-after (s .memory .now) (a .i) (c .with-bit .result) (a .bit) (s .extent .rows) (s .extent .words) (a .row) (a .place) (c .pre .number) (c .with-bit .ensures) (c .pre .in-rows) (c .pre .in-words);
+        kept = set-kept (s .memory .now) (a .i) (c .with-bit .result) (a .bit) (c .with-bit .ensures) h _ (c .pre .below);
+        after = λ x y hx hy. set-cell (s .memory .now) (a .i) (c .with-bit .result) (a .bit) (c .with-bit .ensures) h (s .extent .words) (a .row) (a .place) x y (c .pre .number) (c .pre .in-words) hy;
+      };
     }

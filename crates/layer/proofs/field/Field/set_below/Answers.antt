@@ -21,7 +21,7 @@ returns g c =
       words = c .set .ensures .words;
       kept = c .set .ensures .kept;
       field = record {
-          after = field-after (s .kind) (m .at (s .below)) (m .at (c .set .last .self)) n w u (c .args .row) (c .args .place) (c .args .bit) (f .0) (c .set .ensures .after);
-          other = field-kept (s .kind) (m .at (s .below)) (m .at (c .set .last .self)) n w u (c .args .row) (c .args .place) (c .args .bit) (f .0) (c .set .ensures .after)
-        }
+        after = field-after (s .kind) (m .at (s .below)) (m .at (c .set .last .self)) n w u (c .args .row) (c .args .place) (c .args .bit) (f .0) (c .set .ensures .after);
+        other = field-kept (s .kind) (m .at (s .below)) (m .at (c .set .last .self)) n w u (c .args .row) (c .args .place) (c .args .bit) (f .0) (c .set .ensures .after);
+      };
     }

@@ -26,7 +26,7 @@ returns g c =
       words = c .set .ensures .words;
       kept = c .set .ensures .kept;
       window = record {
-          after = window-after (f .top) (f .left) (f .size) (m .at (s .below)) (m .at (c .set .last .self)) n w r p (c .args .bit) (a .1) (a .2) h;
-          around = window-kept (f .top) (f .left) (f .size) (m .at (s .below)) (m .at (c .set .last .self)) n w r p (c .args .bit) (a .1) (a .2) h
-        }
+        after = window-after (f .top) (f .left) (f .size) (m .at (s .below)) (m .at (c .set .last .self)) n w r p (c .args .bit) (a .1) (a .2) h;
+        around = window-kept (f .top) (f .left) (f .size) (m .at (s .below)) (m .at (c .set .last .self)) n w r p (c .args .bit) (a .1) (a .2) h;
+      };
     }
