@@ -1,0 +1,58 @@
+-- Runs of the register, and the bits of words.
+use Prim.Native.Nat.{ℕ, zero, suc, _+_, _-_, _*_, _/_, _%_, _^_, _<_, _≤_}
+use mathlib.Core.Path.{_≡_, refl, sym, ap, _∙_}
+use mathlib.Core.List.{List, [], _∷_, _++_, append-assoc}
+use mathlib.Core.Bool.{Bool}
+use native.Mathlib.Omega.{arith}
+use lib.Dec.{eqb}
+use lib.ListN.{length, length-append}
+use Rattle.check.specs.Register.{step, run, wordBits, bitsOf}
+
+pub run-none : (r : ℕ) → run r [] ≡ r
+unfolding run
+run-none r = refl
+
+pub run-more : (r : ℕ) (b : Bool) (bits : List Bool) → run r (b ∷ bits) ≡ run (step r b) bits
+unfolding run
+run-more r b bits = refl
+
+pub run-++ : (r : ℕ) (xs ys : List Bool) → run r (xs ++ ys) ≡ run (run r xs) ys
+unfolding run
+run-++ r [] ys = refl
+run-++ r (b ∷ xs) ys = run-++ (step r b) xs ys
+
+pub bits-none : (n : ℕ) → bitsOf n [] ≡ []
+unfolding bitsOf
+bits-none n = refl
+
+pub bits-more : (n w : ℕ) (words : List ℕ) → bitsOf n (w ∷ words) ≡ wordBits n w ++ bitsOf n words
+unfolding bitsOf
+bits-more n w words = refl
+
+pub bits-++ : (n : ℕ) (xs ys : List ℕ) → bitsOf n (xs ++ ys) ≡ bitsOf n xs ++ bitsOf n ys
+unfolding bitsOf
+bits-++ n [] ys = refl
+bits-++ n (w ∷ xs) ys = ap (λ l. wordBits n w ++ l) (bits-++ n xs ys) ∙ sym (append-assoc (wordBits n w) (bitsOf n xs) (bitsOf n ys))
+
+pub length-word : (n w : ℕ) → length (wordBits n w) ≡ n
+unfolding wordBits
+length-word zero w = refl
+length-word (suc n) w = ap suc (length-word n w)
+
+-- a word, or a message, bit by bit and word by word
+pub word-none : (r w k : ℕ) → k ≤ 0 → run r (wordBits k w) ≡ r
+unfolding run wordBits
+word-none r w zero h = refl
+word-none r w (suc k) h = absurd (omega arith)
+
+pub word-more : (r w k : ℕ) → 0 < k → run r (wordBits k w) ≡ run (step r (eqb (w / 2 ^ (k - 1) % 2) 1)) (wordBits (k - 1) w)
+unfolding run wordBits
+word-more r w zero h = absurd (omega arith)
+word-more r w (suc k) h = let e : k ≡ suc k - 1 = omega arith in ap (λ n. run (step r (eqb (w / 2 ^ n % 2) 1)) (wordBits n w)) e
+
+pub words-none : (n r : ℕ) → run r (bitsOf n []) ≡ r
+unfolding run bitsOf
+words-none n r = refl
+
+pub words-more : (n r w : ℕ) (words : List ℕ) → run r (bitsOf n (w ∷ words)) ≡ run (run r (wordBits n w)) (bitsOf n words)
+words-more n r w words = rw (bits-more n w words) (run-++ r (wordBits n w) (bitsOf n words))

@@ -1,0 +1,8 @@
+-- The register over the bytes that are left ends at the check.
+use mathlib.Core.Path.{_≡_}
+use lib.ListN.{drop}
+use Rattle.check.specs.Register.{run, byteBits, checkOf}
+use Rattle.check.proofs.register.of_bytes.Given as given
+
+abbrev pub Inv-loop-byte : given.InvT-loop-byte
+Inv-loop-byte l = run (l .register) (byteBits (drop (l .byte-index) (l .bytes))) ≡ checkOf (byteBits (l .bytes))

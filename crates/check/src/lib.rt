@@ -1,0 +1,5 @@
+// The check over a block's rows and over an image's bytes.
+mod register;
+
+pub use register::of_bytes;
+pub use register::of_rows;
