@@ -2,11 +2,12 @@
 use Prim.Native.Nat.{ℕ, zero, suc, _+_, _-_, _*_, _/_, _%_, _^_, _<_, _≤_}
 use mathlib.Core.Path.{_≡_, refl, sym, ap, _∙_}
 use mathlib.Core.List.{List, [], _∷_, _++_, append-assoc}
-use mathlib.Core.Bool.{Bool}
+use mathlib.Core.Bool.{Bool, true, false}
 use native.Mathlib.Omega.{arith}
-use lib.Dec.{eqb}
+use lib.Bits.{xor-lt}
+use lib.Dec.{leb, eqb}
 use lib.ListN.{length, length-append}
-use Rattle.check.specs.Register.{step, run, wordBits, bitsOf}
+use Rattle.check.specs.Register.{polynomial, unlike, shifted, step, run, wordBits, bitsOf}
 
 pub run-none : (r : ℕ) → run r [] ≡ r
 unfolding run
@@ -56,3 +57,13 @@ words-none n r = refl
 
 pub words-more : (n r w : ℕ) (words : List ℕ) → run r (bitsOf n (w ∷ words)) ≡ run (run r (wordBits n w)) (bitsOf n words)
 words-more n r w words = rw (bits-more n w words) (run-++ r (wordBits n w) (bitsOf n words))
+
+-- the register stays within its 32 bits
+pub shifted-below : (f : Bool) (r : ℕ) → shifted f r < 2 ^ 32
+shifted-below true r = xor-lt 32 (r * 2 % 2 ^ 32) polynomial (omega arith) (omega arith)
+shifted-below false r = omega arith
+
+pub run-below : (bits : List Bool) (r : ℕ) → r < 2 ^ 32 → run r bits < 2 ^ 32
+unfolding run
+run-below [] r h = h
+run-below (b ∷ bits) r h = run-below bits (step r b) (shifted-below (unlike (leb (2 ^ 31) r) b) r)
