@@ -99,7 +99,7 @@ bit-enters r true h =
 bit-enters r false h = ap (λ (x : ℕ). step x false) (xor-zero-r r)
 
 -- and so the n bits of a word enter as if they were added to the top bits, with zeros after them
-word-enters : (n k r w : ℕ) → n + k ≡ 32 → r < 2 ^ 32 → run r (wordBits n w) ≡ run (bitXor r (w % 2 ^ n * 2 ^ k)) (wordBits n 0)
+pub word-enters : (n k r w : ℕ) → n + k ≡ 32 → r < 2 ^ 32 → run r (wordBits n w) ≡ run (bitXor r (w % 2 ^ n * 2 ^ k)) (wordBits n 0)
 unfolding run wordBits
 word-enters zero k r w h hr =
     let e : w % 1 ≡ 0 = omega arith in
@@ -168,7 +168,7 @@ pub feedback-at : (top : ℕ) → top < 256 → getD feedbacks top 0 ≡ fedBack
 feedback-at top h = getD-map-counting (λ x. zeros 8 (x * 2 ^ 24)) 0 256 top top 0 h (omega arith) ∙ zeros-run 8 (top * 2 ^ 24)
 
 -- the bits of a word are those of its high part and then those of its low part
-word-low : (n j w : ℕ) → wordBits n (w % 2 ^ (j + n)) ≡ wordBits n w
+pub word-low : (n j w : ℕ) → wordBits n (w % 2 ^ (j + n)) ≡ wordBits n w
 unfolding wordBits
 word-low zero j w = refl
 word-low (suc n) j w =
@@ -176,7 +176,7 @@ word-low (suc n) j w =
     ap (λ (x : ℕ). eqb (w % 2 ^ x / 2 ^ n % 2) 1 ∷ wordBits n (w % 2 ^ x)) e
     ∙ ap₂ (λ (x : ℕ) (l : List Bool). eqb x 1 ∷ l) (ap (λ (x : ℕ). x % 2) (field-of w (j + 1) n) ∙ mod-mod-pow (w / 2 ^ n) j 1) (word-low n (j + 1) w)
 
-word-parts : (m n w : ℕ) → wordBits (m + n) w ≡ wordBits m (w / 2 ^ n) ++ wordBits n w
+pub word-parts : (m n w : ℕ) → wordBits (m + n) w ≡ wordBits m (w / 2 ^ n) ++ wordBits n w
 unfolding wordBits
 word-parts zero n w = ap (λ (x : ℕ). wordBits x w) (zero-add n)
 word-parts (suc m) n w =
