@@ -15,7 +15,7 @@ use Rattle.std.proofs.shelf.Tests.{cases-eq, cases-lt}
 use Rattle.std.proofs.shelf.Ways.{decides-eqb, decides-like}
 use Rattle.check.specs.Register.{run, start, checkOf, wordBits, rowBits}
 use Rattle.check.specs.Burst.{Rows, Block, spelledAt, Fits, fitting, AlikeBut, Alone, Burst-never-passes, Ends-at-zero, withCheck, Checked-fits}
-use Rattle.check.proofs.Runs.{run-++, run-below, bits-++, words-none, words-more}
+use Rattle.check.proofs.Runs.{run-++, run-below, check-below, bits-++, words-none, words-more}
 use Rattle.check.proofs.Bytes.{word-low, word-parts, word-enters}
 use Rattle.check.proofs.Inverses.{xor-cancel, run-cancel}
 
@@ -66,9 +66,6 @@ module _ (rows : List ℕ) (n : ℕ) (h : n + 2 ≤ length rows) where
 pub spelled-below : (rows : List ℕ) (n : ℕ) → Block rows → n ≤ 14 → spelledAt rows n < 2 ^ 32
 spelled-below rows n k h = omega (arith, k .narrow n (omega arith), k .narrow (n + 1) (omega arith))
 
-pub check-below : (bits : List Bool) → checkOf bits < 2 ^ 32
-check-below bits = run-below bits start (omega arith)
-
 -- the register over a block that fits ends at 0, and no other's does
 block-run : (rows : List ℕ) → Block rows → checkOf (rowBits rows) ≡ run (checkOf (rowBits (take 14 rows))) (wordBits 32 (spelledAt rows 14))
 block-run rows k =
@@ -99,12 +96,12 @@ module _ (rows others : List ℕ) (n : ℕ) (k : Block rows) (l : Block others) 
   front =
       ext-getD 0 (take n others) (take n rows) (simp length-take (omega (arith, k .long, l .long)))
       (λ i b. let g : i < n = omega (arith, length-take n others) in
-              getD-take n others i 0 g ∙ alike i (λ e. omega arith) (λ e. omega arith) ∙ sym (getD-take n rows i 0 g))
+              getD-take n others i 0 g ∙ alike i (omega arith) (λ e. omega arith) (λ e. omega arith) ∙ sym (getD-take n rows i 0 g))
 
   back : drop (n + 2) others ≡ drop (n + 2) rows
   back =
       ext-getD 0 (drop (n + 2) others) (drop (n + 2) rows) (simp length-drop (omega (arith, k .long, l .long)))
-      (λ i b. getD-drop (n + 2) others i 0 ∙ alike (n + 2 + i) (λ e. omega arith) (λ e. omega arith) ∙ sym (getD-drop (n + 2) rows i 0))
+      (λ i b. getD-drop (n + 2) others i 0 ∙ alike (n + 2 + i) (omega (arith, length-drop (n + 2) others, l .long)) (λ e. omega arith) (λ e. omega arith) ∙ sym (getD-drop (n + 2) rows i 0))
 
   same-spelled : Fits rows → Fits others → spelledAt others n ≡ spelledAt rows n
   same-spelled f g =
@@ -125,11 +122,11 @@ module _ (rows others : List ℕ) (n : ℕ) (k : Block rows) (l : Block others) 
   same-block f g =
       let e = same-spelled f g in
       let a : getD others n 0 ≡ getD rows n 0 = omega (arith, e, k .narrow (n + 1) (omega arith), l .narrow (n + 1) (omega arith)) in
-      let b : getD others (n + 1) 0 ≡ getD rows (n + 1) 0 = omega (arith, e, a) in
+      let z : getD others (n + 1) 0 ≡ getD rows (n + 1) 0 = omega (arith, e, a) in
       ext-getD 0 others rows (l .long ∙ sym (k .long))
-      (λ i _. elim (cases-eq i n) [
+      (λ i b. elim (cases-eq i n) [
         | inl p ↦ rw p a
-        | inr p ↦ elim (cases-eq i (n + 1)) [ inl q ↦ rw q b | inr q ↦ alike i p q ]
+        | inr p ↦ elim (cases-eq i (n + 1)) [ inl q ↦ rw q z | inr q ↦ alike i (omega (arith, l .long)) p q ]
       ])
 
 pub burst-never-passes : Burst-never-passes

@@ -7,7 +7,7 @@ use native.Mathlib.Omega.{arith}
 use lib.Bits.{xor-lt}
 use lib.Dec.{leb, eqb}
 use lib.ListN.{length, length-append}
-use Rattle.check.specs.Register.{polynomial, unlike, shifted, step, run, wordBits, bitsOf}
+use Rattle.check.specs.Register.{polynomial, unlike, shifted, step, run, start, checkOf, wordBits, bitsOf}
 
 pub run-none : (r : ℕ) → run r [] ≡ r
 unfolding run
@@ -40,17 +40,7 @@ unfolding wordBits
 length-word zero w = refl
 length-word (suc n) w = ap suc (length-word n w)
 
--- a word, or a message, bit by bit and word by word
-pub word-none : (r w k : ℕ) → k ≤ 0 → run r (wordBits k w) ≡ r
-unfolding run wordBits
-word-none r w zero h = refl
-word-none r w (suc k) h = absurd (omega arith)
-
-pub word-more : (r w k : ℕ) → 0 < k → run r (wordBits k w) ≡ run (step r (eqb (w / 2 ^ (k - 1) % 2) 1)) (wordBits (k - 1) w)
-unfolding run wordBits
-word-more r w zero h = absurd (omega arith)
-word-more r w (suc k) h = let e : k ≡ suc k - 1 = omega arith in ap (λ n. run (step r (eqb (w / 2 ^ n % 2) 1)) (wordBits n w)) e
-
+-- the register over words, word by word
 pub words-none : (n r : ℕ) → run r (bitsOf n []) ≡ r
 unfolding run bitsOf
 words-none n r = refl
@@ -67,3 +57,6 @@ pub run-below : (bits : List Bool) (r : ℕ) → r < 2 ^ 32 → run r bits < 2 ^
 unfolding run
 run-below [] r h = h
 run-below (b ∷ bits) r h = run-below bits (step r b) (shifted-below (unlike (leb (2 ^ 31) r) b) r)
+
+pub check-below : (bits : List Bool) → checkOf bits < 2 ^ 32
+check-below bits = run-below bits start (omega arith)

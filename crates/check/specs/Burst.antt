@@ -29,7 +29,7 @@ fitting rows = eqb (spelledAt rows 14) (checkOf (rowBits (take 14 rows)))
 
 -- two blocks differ in rows n and n + 1 alone
 abbrev pub AlikeBut : ℕ → List ℕ → List ℕ → Type 0
-AlikeBut n rows others = (i : ℕ) → (i ≡ n → ⊥) → (i ≡ n + 1 → ⊥) → getD others i 0 ≡ getD rows i 0
+AlikeBut n rows others = (i : ℕ) → i < 16 → (i ≡ n → ⊥) → (i ≡ n + 1 → ⊥) → getD others i 0 ≡ getD rows i 0
 
 -- no other block that differs within two neighbouring rows fits
 abbrev pub Alone : List ℕ → Type 0

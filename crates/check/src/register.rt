@@ -1,5 +1,6 @@
 // The check over rows and over bytes.
 ghost use mathlib.Core.Path.{_≡_};
+ghost use lib.Chars.{codes};
 ghost use Rattle.check.specs.Register.{checkOf, rowBits, byteBits};
 use crate::table::fed_byte;
 use crate::table::fed_row;
@@ -29,9 +30,16 @@ pub fn of_bytes(bytes: &[u8]) -> u32
     register
 }
 
-// The check of the nine ASCII bytes 1 to 9, by which this register is told from others.
+// The check by which this register is told from others: that of the text 123456789.
 pub fn known_check() -> u32
-    ensures { λ r. ⌜ r ≡ 0x0376E6E7 ⌝ }
+    ensures value { λ r. ⌜ r ≡ checkOf (byteBits (codes "123456789")) ⌝ }
+    ensures known { λ r. ⌜ r ≡ 0x0376E6E7 ⌝ }
+{
+    of_digits()
+}
+
+fn of_digits() -> u32
+    ensures { λ r. ⌜ r ≡ checkOf (byteBits (codes "123456789")) ⌝ }
 {
     of_bytes(b"123456789")
 }
