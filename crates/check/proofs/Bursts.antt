@@ -96,7 +96,7 @@ module _ (rows others : List ℕ) (n : ℕ) (k : Block rows) (l : Block others) 
   front =
       ext-getD 0 (take n others) (take n rows) (simp length-take (omega (arith, k .long, l .long)))
       (λ i b. let g : i < n = omega (arith, length-take n others) in
-              getD-take n others i 0 g ∙ alike i (omega arith) (λ e. omega arith) (λ e. omega arith) ∙ sym (getD-take n rows i 0 g))
+      getD-take n others i 0 g ∙ alike i (omega arith) (λ e. omega arith) (λ e. omega arith) ∙ sym (getD-take n rows i 0 g))
 
   back : drop (n + 2) others ≡ drop (n + 2) rows
   back =
@@ -114,7 +114,7 @@ module _ (rows others : List ℕ) (n : ℕ) (k : Block rows) (l : Block others) 
       = sym (run-around rows n (omega (arith, k .long)) start (k .narrow (n + 1) (omega arith))) ∙ zero-if-fits rows k f in
       let there : run (run r (wordBits 32 v)) bits ≡ 0
       = ap₂ (λ (x y : List ℕ). run (run (run start (rowBits x)) (wordBits 32 v)) (rowBits y)) (sym front) (sym back)
-        ∙ sym (run-around others n (omega (arith, l .long)) start (l .narrow (n + 1) (omega arith))) ∙ zero-if-fits others l g in
+      ∙ sym (run-around others n (omega (arith, l .long)) start (l .narrow (n + 1) (omega arith))) ∙ zero-if-fits others l g in
       whole-apart r v w hr (spelled-below others n l h) (spelled-below rows n k h)
       (run-cancel bits (run r (wordBits 32 v)) (run r (wordBits 32 w)) (run-below (wordBits 32 v) r hr) (run-below (wordBits 32 w) r hr) (there ∙ sym here))
 

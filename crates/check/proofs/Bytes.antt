@@ -110,12 +110,16 @@ word-enters (suc n) k r w h hr =
   where
     b : Bool
     b = eqb (w / 2 ^ n % 2) 1
+
     low : ℕ
     low = w % 2 ^ n * 2 ^ k
+
     whole : n + k ≡ 31
     whole = omega arith
+
     low-below : low < 2 ^ 31
     low-below = subst (λ (x : ℕ). low < 2 ^ x) whole (shl-below (w % 2 ^ n) n k (mod-below w (2 ^ n) (pow-pos n)))
+
     parts : w % 2 ^ suc n * 2 ^ k ≡ bitXor (digit b * 2 ^ 31) low
     parts =
         ap (λ (x : ℕ). w % 2 ^ x * 2 ^ k) (sym (one-add n))
@@ -123,10 +127,13 @@ word-enters (suc n) k r w h hr =
         ∙ add-mul (w / 2 ^ n % 2 * 2 ^ n) (w % 2 ^ n) (2 ^ k)
         ∙ ap (λ (x : ℕ). x + low) (mul-assoc (w / 2 ^ n % 2) (2 ^ n) (2 ^ k) ∙ ap₂ (λ (x y : ℕ). x * y) (sym (digit-is (w / 2 ^ n % 2) (omega arith))) (sym (pow-add 2 n k) ∙ ap (λ (x : ℕ). 2 ^ x) whole))
         ∙ sym (xor-shifted (digit b) 31 low low-below)
+
     up-one : low * 2 ≡ w % 2 ^ n * 2 ^ (k + 1)
     up-one = mul-assoc (w % 2 ^ n) (2 ^ k) 2 ∙ ap (λ (x : ℕ). w % 2 ^ n * x) (sym (pow-add 2 k 1))
+
     zero-bit : eqb (0 / 2 ^ n % 2) 1 ≡ false
     zero-bit = ap (λ (x : ℕ). eqb (x % 2) 1) (zero-div (2 ^ n))
+
     first : step (bitXor r (w % 2 ^ suc n * 2 ^ k)) (eqb (0 / 2 ^ n % 2) 1) ≡ bitXor (step r b) (w % 2 ^ n * 2 ^ (k + 1))
     first =
         ap₂ step (ap (bitXor r) parts ∙ sym (xor-assoc r (digit b * 2 ^ 31) low)) zero-bit

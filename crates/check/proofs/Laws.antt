@@ -22,9 +22,9 @@ halves-from-fits rows k f =
 -- and then it is its first 14 rows with their check
 pub first-rows : (rows : List ℕ) → Block rows → Rows 14 (take 14 rows)
 first-rows rows k = record {
-    long = length-take 14 rows ∙ omega (arith, k .long);
-    narrow = λ i h. omega (arith, getD-take 14 rows i 0 h, k .narrow i (omega arith));
-  }
+  long = length-take 14 rows ∙ omega (arith, k .long);
+  narrow = λ i h. omega (arith, getD-take 14 rows i 0 h, k .narrow i (omega arith));
+}
 
 pub checked-from-fits : (rows : List ℕ) → Block rows → Fits rows → rows ≡ withCheck (take 14 rows)
 checked-from-fits rows k f =

@@ -31,8 +31,7 @@ pub fn burst_never_passes()
     ensures burst { λ _. ⌜ Burst-never-passes ⌝ }
     ensures ends { λ _. ⌜ Ends-at-zero ⌝ }
     ensures checked { λ _. ⌜ Checked-fits ⌝ }
-{
-}
+{}
 
 fn is_fitting(rows: &[u16; 16]) -> bool
     ensures { λ r. ⌜ r ≡ fitting (now (rows .entry)) ⌝ }

@@ -16,9 +16,9 @@ loop-byte-again c =
     let register = c .loop-byte .register in (
       search needs,
       ap (λ (x : ℕ). run x (byteBits (drop (i + 1) bytes))) (c .fed-byte-register .ensures ∙ sym (byte-enters register (getD bytes i 0) (search needs) (search needs)))
-      ∙ sym (words-more 8 register (getD bytes i 0) (drop (i + 1) bytes))
-      ∙ sym (at-drop-more (λ (l : List ℕ). run register (byteBits l)) bytes i 0 (search needs))
-      ∙ c .loop-byte .inv .1,
+          ∙ sym (words-more 8 register (getD bytes i 0) (drop (i + 1) bytes))
+          ∙ sym (at-drop-more (λ (l : List ℕ). run register (byteBits l)) bytes i 0 (search needs))
+          ∙ c .loop-byte .inv .1,
     )
 
 pub returns : need.returns

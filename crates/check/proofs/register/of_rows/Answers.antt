@@ -16,9 +16,9 @@ loop-row-again c =
     let register = c .loop-row .register in (
       search needs,
       ap (λ (x : ℕ). run x (rowBits (drop (i + 1) rows))) (c .fed-row-register .ensures ∙ sym (row-enters register (getD rows i 0) (search needs) (search needs)))
-      ∙ sym (words-more 16 register (getD rows i 0) (drop (i + 1) rows))
-      ∙ sym (at-drop-more (λ (l : List ℕ). run register (rowBits l)) rows i 0 (search needs))
-      ∙ c .loop-row .inv .1,
+          ∙ sym (words-more 16 register (getD rows i 0) (drop (i + 1) rows))
+          ∙ sym (at-drop-more (λ (l : List ℕ). run register (rowBits l)) rows i 0 (search needs))
+          ∙ c .loop-row .inv .1,
     )
 
 pub returns : need.returns
