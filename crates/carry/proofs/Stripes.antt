@@ -10,7 +10,7 @@ use lib.Dec.{eqb, leb, ltb}
 use Rattle.std.proofs.shelf.Tests.{cases-eq}
 use Rattle.std.proofs.shelf.Ways.{tells, decides-eqb, decides-and, decides-like, same-from-decides}
 use Rattle.std.specs.Orderings.{Decides}
-use Rattle.block.specs.Column.{within, carrying, carriedRows}
+use Rattle.column.specs.Column.{within, carrying, carriedRows}
 use Rattle.std.specs.declared.result.Result.the-variants.{Ok}
 use Rattle.carry.specs.Pattern.{patternOf, position}
 use Rattle.carry.specs.Stripe.{Laden, equalRows, countRead}

@@ -4,7 +4,7 @@ use mathlib.Core.Bool.{Bool, true, false, cond, _&&_}
 use mathlib.Core.List.{List, [], _∷_}
 use mathlib.Core.Path.{_≡_}
 use lib.Dec.{eqb}
-use Rattle.block.specs.Column.{carriedRows}
+use Rattle.column.specs.Column.{carriedRows}
 use Rattle.carry.specs.Pattern.{patternOf, position}
 
 -- The first n columns of a slab of 16 rows of so many words carry their patterns, and nothing moved but bit 0 of their even words.

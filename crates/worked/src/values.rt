@@ -1,7 +1,7 @@
 // Values that anyone can check by hand.
-use block::carried;
-use block::embed;
-use block::scrambled_bit;
+use column::carried;
+use column::embed;
+use column::scrambled_bit;
 use buffer::PackedBuffer;
 use buffer::PackedRaster;
 use buffer::WordBuffer;

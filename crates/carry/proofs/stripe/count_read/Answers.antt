@@ -4,7 +4,7 @@ use mathlib.Core.Path.{_≡_, refl, sym, ap, _∙_}
 use mathlib.Core.Bool.{true, false}
 use Prim.Native.Nat.{_+_}
 use Rattle.std.proofs.shelf.Equals.{matches-decides}
-use Rattle.block.specs.Column.{carriedRows}
+use Rattle.column.specs.Column.{carriedRows}
 use Rattle.carry.specs.Pattern.{patternOf, position}
 use Rattle.carry.specs.Stripe.{equalRows}
 use Rattle.carry.proofs.Stripes.{count-none, count-more, rows-test, from-within}

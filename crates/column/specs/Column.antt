@@ -10,7 +10,7 @@ use Rattle.fault.specs.declared.Fault.the-variants.{SlabExtent, NotInFormat}
 use Rattle.std.specs.Iters.{counting}
 use Rattle.std.specs.declared.result.Result.{Result}
 use Rattle.std.specs.declared.result.Result.the-variants.{Ok, Err}
-use Rattle.block.specs.Scramble.{scrambled, unscrambled}
+use Rattle.column.specs.Scramble.{scrambled, unscrambled}
 
 -- the answer x, if the raster is a slab and the column lies wholly inside it
 abbrev pub within : {A : Type 0} → ℕ → ℕ → ℕ → A → Result A Fault

@@ -9,11 +9,11 @@ use lib.ListN.{length, getD}
 use lib.Pow.{pow-mono}
 use Rattle.std.proofs.shelf.Bits.{mod-pow-add, shr-shr}
 use Rattle.std.proofs.shelf.Counted.{fill-by-all, getD-map-counting}
-use Rattle.block.specs.declared.column.Window.{Window}
-use Rattle.block.specs.Scramble.{parity, scrambled, unscrambled}
-use Rattle.block.specs.Column.{bitAt, laden, spelled, carriedRow, carriedRows}
-use Rattle.block.specs.Window.{rowsOf}
-use Rattle.block.proofs.Steps.{below-two}
+use Rattle.column.specs.declared.column.Window.{Window}
+use Rattle.column.specs.Scramble.{parity, scrambled, unscrambled}
+use Rattle.column.specs.Column.{bitAt, laden, spelled, carriedRow, carriedRows}
+use Rattle.column.specs.Window.{rowsOf}
+use Rattle.column.proofs.Steps.{below-two}
 
 pub spelled-none : (line : ℕ → ℕ) (first : ℕ) → spelled line first 0 ≡ 0
 unfolding spelled

@@ -1,9 +1,9 @@
 use borrow.Author.Needs.{needs}
 use mathlib.Core.Path.{_≡_}
 use Prim.Native.Nat.{_*_}
-use Rattle.block.specs.declared.column.Window.{Window}
-use Rattle.block.proofs.Spelled.{window-rows}
-use Rattle.block.proofs.column.carried.Needs as need
+use Rattle.column.specs.declared.column.Window.{Window}
+use Rattle.column.proofs.Spelled.{window-rows}
+use Rattle.column.proofs.column.carried.Needs as need
 
 pub returns : need.returns
 returns g c =

@@ -10,10 +10,10 @@ use lib.ListN.{getD}
 use Rattle.std.proofs.shelf.Tests.{cases-eq, eq-eqb, ne-eqb}
 use Rattle.std.proofs.shelf.Ways.{tells}
 use Rattle.raster.specs.Meaning.{replaced, withBit}
-use Rattle.block.specs.declared.column.Window.{Window}
-use Rattle.block.specs.Scramble.{scrambled, isOne, oneIf}
-use Rattle.block.specs.Column.{bitAt, laden}
-use Rattle.block.specs.Window.{among, lineTo, rowsTo}
+use Rattle.column.specs.declared.column.Window.{Window}
+use Rattle.column.specs.Scramble.{scrambled, isOne, oneIf}
+use Rattle.column.specs.Column.{bitAt, laden}
+use Rattle.column.specs.Window.{among, lineTo, rowsTo}
 
 -- a bit, as a truth value and back
 bit-back : (d : ℕ) → d < 2 → oneIf (isOne d) ≡ d

@@ -5,8 +5,8 @@ use mathlib.Core.List.{List, map}
 use lib.Dec.{ltb, leb, eqb}
 use lib.ListN.{getD}
 use Rattle.std.specs.Iters.{counting}
-use Rattle.block.specs.declared.column.Window.{Window}
-use Rattle.block.specs.Column.{bitAt, laden, spelled}
+use Rattle.column.specs.declared.column.Window.{Window}
+use Rattle.column.specs.Column.{bitAt, laden, spelled}
 
 -- the window lies inside a raster, and its extent fits 64 bits, so that no place in the window overflows
 pub record Lies (w : Window) (rows words : ℕ) : Type 0 where

@@ -3,10 +3,10 @@ use mathlib.Core.Path.{_≡_, refl, _∙_}
 use mathlib.Core.Bool.{true, false}
 use mathlib.Core.List.{[]}
 use Prim.Native.Nat.{ℕ, _*_, _<_}
-use Rattle.block.specs.declared.column.Window.{Window}
-use Rattle.block.specs.Column.{embedded}
-use Rattle.block.proofs.Laws.{window-embeds, reads-back, only-low, others-same, few-differ}
-use Rattle.block.proofs.column.embed.Needs as need
+use Rattle.column.specs.declared.column.Window.{Window}
+use Rattle.column.specs.Column.{embedded}
+use Rattle.column.proofs.Laws.{window-embeds, reads-back, only-low, others-same, few-differ}
+use Rattle.column.proofs.column.embed.Needs as need
 
 pub returns : need.returns
 returns g c =

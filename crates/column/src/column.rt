@@ -7,9 +7,9 @@ ghost use Rattle.std.specs.Results.{isOk};
 ghost use Rattle.std.specs.declared.result.Result.the-variants.{Ok};
 ghost use Rattle.raster.specs.Meaning.{replaced};
 ghost use Rattle.raster.specs.Difference.{differing};
-ghost use Rattle.block.specs.Scramble.{scrambled, isOne, oneIf};
-ghost use Rattle.block.specs.Column.{within, carrying, bitAt, embedded, spelled, carriedRows};
-ghost use Rattle.block.specs.Window.{Lies, lineTo, rowsTo, rowOf, rowsOf};
+ghost use Rattle.column.specs.Scramble.{scrambled, isOne, oneIf};
+ghost use Rattle.column.specs.Column.{within, carrying, bitAt, embedded, spelled, carriedRows};
+ghost use Rattle.column.specs.Window.{Lies, lineTo, rowsTo, rowOf, rowsOf};
 use crate::scramble::carried_bit;
 use crate::scramble::scrambled_bit;
 use fault::Fault;
@@ -40,6 +40,14 @@ pub fn carried<R: Raster>(slab: &R, column: usize) -> Result<[u16; 16], Fault>
 {
     let window = window_of(slab.extent(), column)?;
     read_rows(slab, window)
+}
+
+// Whether the raster is a slab and the column lies wholly inside it.
+pub fn check_column<R: Raster>(slab: &R, column: usize) -> Result<(), Fault>
+    ensures { λ r. ⌜ r ≡ within (R·Raster .rows (now (slab .entry))) (R·Raster .words (now (slab .entry))) column tt ⌝ }
+{
+    window_of(slab.extent(), column)?;
+    Ok(())
 }
 
 // The window of 16 rows and 32 words that a column is, as plain numbers: its first row and its first word.

@@ -3,8 +3,8 @@ use Prim.Native.Nat.{ℕ, _+_, _<_}
 use mathlib.Core.Path.{_≡_}
 use mathlib.Core.Bool.{cond}
 use lib.Dec.{eqb}
-use Rattle.block.specs.Window.{lineTo}
-use Rattle.block.proofs.column.embed_row.Given as given
+use Rattle.column.specs.Window.{lineTo}
+use Rattle.column.proofs.column.embed_row.Given as given
 
 abbrev pub Inv-loop-k : given.InvT-loop-k
 Inv-loop-k g l =

@@ -13,11 +13,11 @@ use Rattle.std.proofs.shelf.Tests.{cases-lt, eq-eqb, true≢false}
 use Rattle.std.proofs.shelf.Ways.{tells}
 use Rattle.raster.specs.Difference.{differingWords, differing}
 use Rattle.raster.proofs.Differences.{words-none, words-more, rows-none, rows-more}
-use Rattle.block.specs.declared.column.Window.{Window}
-use Rattle.block.specs.Column.{carrying, bitAt, embedded, carriedRows}
-use Rattle.block.specs.Window.{among, rowsTo}
-use Rattle.block.proofs.Steps.{place-bit}
-use Rattle.block.proofs.Spelled.{laden-above, spelled-row, spelled-like, carried-row, carried-length, carried-is}
+use Rattle.column.specs.declared.column.Window.{Window}
+use Rattle.column.specs.Column.{carrying, bitAt, embedded, carriedRows}
+use Rattle.column.specs.Window.{among, rowsTo}
+use Rattle.column.proofs.Steps.{place-bit}
+use Rattle.column.proofs.Spelled.{laden-above, spelled-row, spelled-like, carried-row, carried-length, carried-is}
 
 -- which words carry
 even-carries : (c i k : ℕ) → i < 16 → k < 16 → carrying c i (32 * c + 2 * k) ≡ true

@@ -1,8 +1,8 @@
 -- Fifteen bits and one more fit.
 use borrow.Author.Needs.{needs}
 use Prim.Native.Nat.{_+_}
-use Rattle.block.proofs.Spelled.{spelled-more, spelled-below}
-use Rattle.block.proofs.column.read_bit.Needs as need
+use Rattle.column.proofs.Spelled.{spelled-more, spelled-below}
+use Rattle.column.proofs.column.read_bit.Needs as need
 
 pub mul-result : need.mul-result
 mul-result g c =

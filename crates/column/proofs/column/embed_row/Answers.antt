@@ -1,7 +1,7 @@
 use borrow.Author.Needs.{needs}
 use Prim.Native.Nat.{_+_}
-use Rattle.block.proofs.Steps.{bit-more}
-use Rattle.block.proofs.column.embed_row.Needs as need
+use Rattle.column.proofs.Steps.{bit-more}
+use Rattle.column.proofs.column.embed_row.Needs as need
 
 pub loop-k-again : need.loop-k-again
 loop-k-again g c =

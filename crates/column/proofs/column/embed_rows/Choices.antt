@@ -1,8 +1,8 @@
 -- The window so far carries the first rows of the block.
 use Prim.Native.Nat.{ℕ, _<_}
 use mathlib.Core.Path.{_≡_}
-use Rattle.block.specs.Window.{rowsTo}
-use Rattle.block.proofs.column.embed_rows.Given as given
+use Rattle.column.specs.Window.{rowsTo}
+use Rattle.column.proofs.column.embed_rows.Given as given
 
 abbrev pub Inv-loop-row : given.InvT-loop-row
 Inv-loop-row g l =

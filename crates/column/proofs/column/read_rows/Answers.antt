@@ -3,8 +3,8 @@ use mathlib.Core.Path.{_≡_, ap}
 use Rattle.std.specs.declared.result.Result.the-variants.{Ok}
 use Rattle.std.proofs.shelf.Counted.{fill-by-all}
 use Rattle.std.proofs.shelf.Edits.{fill-by-more}
-use Rattle.block.specs.Window.{rowOf, rowsOf}
-use Rattle.block.proofs.column.read_rows.Needs as need
+use Rattle.column.specs.Window.{rowOf, rowsOf}
+use Rattle.column.proofs.column.read_rows.Needs as need
 
 pub loop-i-again : need.loop-i-again
 loop-i-again g c =

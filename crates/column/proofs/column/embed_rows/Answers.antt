@@ -1,7 +1,7 @@
 use borrow.Author.Needs.{needs}
 use lib.ListN.{getD}
-use Rattle.block.proofs.Steps.{row-more}
-use Rattle.block.proofs.column.embed_rows.Needs as need
+use Rattle.column.proofs.Steps.{row-more}
+use Rattle.column.proofs.column.embed_rows.Needs as need
 
 pub loop-row-again : need.loop-row-again
 loop-row-again g c =

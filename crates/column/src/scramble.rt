@@ -2,7 +2,7 @@
 ghost use mathlib.Core.Path.{_≡_};
 ghost use Prim.Native.Nat.{_<_};
 ghost use Rattle.raster.specs.Meaning.{withBit};
-ghost use Rattle.block.specs.Scramble.{parity, scrambled, unscrambled, isOne, oneIf};
+ghost use Rattle.column.specs.Scramble.{parity, scrambled, unscrambled, isOne, oneIf};
 
 // What bit 0 of the chroma word becomes, so that it carries the bit. The carried bit of the new word is then that bit.
 pub fn scrambled_bit(chroma: u16, luma: u16, bit: bool) -> bool
