@@ -1,0 +1,88 @@
+// Encoding a block in 16 rows, and decoding it.
+ghost use mathlib.Core.Path.{_≡_};
+ghost use mathlib.Core.List.{List};
+ghost use mathlib.Core.Bool.{true};
+ghost use Prim.Native.Nat.{ℕ, _≤_};
+ghost use lib.ListN.{take};
+ghost use Rattle.std.specs.Orderings.{Decides};
+ghost use Rattle.std.specs.Results.{isOk};
+ghost use Rattle.std.specs.Vec.{made};
+ghost use Rattle.std.specs.declared.result.Result.the-variants.{Ok};
+ghost use Rattle.check.specs.Burst.{withCheck};
+ghost use Rattle.block.specs.Code.{encoded, decoded, WellFormed, NoneNear, OnlyThese};
+use check::fits;
+use check::of_rows;
+use fault::Fault;
+use record::Block;
+use record::block_of;
+use record::data_rows;
+use record::has_sync;
+use record::reserved_clear;
+
+// The largest reference: references count modulo 65521.
+const LAST_REFERENCE: u16 = 65520;
+
+// The rows of a block. Decoding gives it back.
+pub fn encode(block: &Block) -> Result<[u16; 16], Fault>
+    ensures answer { λ r. ⌜ r ≡ encoded (now (block .entry)) ⌝ }
+    ensures back { λ r. ⌜ (now (block .entry) .reference ≤ 65520 → made r (λ rows. decoded rows ≡ Ok (now (block .entry)))) ⌝ }
+{
+    let rows = data_rows(block)?;
+    Ok(with_check(&rows))
+}
+
+// The block in 16 rows. It accepts exactly the well-formed ones, and encoding gives them back.
+pub fn decode(rows: &[u16; 16]) -> Result<Block, Fault>
+    ensures answer { λ r. ⌜ r ≡ decoded (now (rows .entry)) ⌝ }
+    ensures accepts { λ r. ⌜ Decides (isOk r) (WellFormed (now (rows .entry))) ⌝ }
+    ensures back { λ r. ⌜ made r (λ b. encoded b ≡ Ok (now (rows .entry))) ⌝ }
+    ensures alone { λ r. ⌜ made r (OnlyThese (now (rows .entry))) ⌝ }
+    ensures burst { λ r. ⌜ made r (λ _. NoneNear (now (rows .entry))) ⌝ }
+{
+    judge(rows)
+}
+
+// The tests, in checking order.
+fn judge(rows: &[u16; 16]) -> Result<Block, Fault>
+    ensures { λ r. ⌜ r ≡ decoded (now (rows .entry)) ⌝ }
+{
+    let data = data_of(rows);
+    if !has_sync(&data) {
+        return Err(Fault::Sync);
+    }
+    if !fits(rows) {
+        return Err(Fault::BlockCheck);
+    }
+    if !reserved_clear(&data) {
+        return Err(Fault::ReservedBit);
+    }
+    let block = block_of(&data);
+    if block.reference > LAST_REFERENCE {
+        return Err(Fault::ReferenceRange);
+    }
+    if !block.record.keeps_rules() {
+        return Err(Fault::RecordRule);
+    }
+    Ok(block)
+}
+
+// The rows before the check.
+fn data_of(rows: &[u16; 16]) -> [u16; 14]
+    ensures { λ r. ⌜ r ≡ take 14 (now (rows .entry)) ⌝ }
+{
+    [
+        rows[0], rows[1], rows[2], rows[3], rows[4], rows[5], rows[6], rows[7], rows[8], rows[9],
+        rows[10], rows[11], rows[12], rows[13],
+    ]
+}
+
+// The data rows, and the check over them.
+fn with_check(rows: &[u16; 14]) -> [u16; 16]
+    ensures { λ r. ⌜ r ≡ withCheck (now (rows .entry)) ⌝ }
+{
+    let check = of_rows(rows);
+    [
+        rows[0], rows[1], rows[2], rows[3], rows[4], rows[5], rows[6], rows[7], rows[8], rows[9],
+        rows[10], rows[11], rows[12], rows[13], (check / 65536) as u16, (check % 65536) as u16,
+    ]
+}
