@@ -1,22 +1,21 @@
 -- When a block fits, and that it then stands alone among those that differ within two neighbouring rows.
-use Prim.Native.Nat.{ℕ, zero, suc, _+_, _*_, _/_, _%_, _^_, _<_, _≤_}
+use Prim.Native.Nat.{ℕ, _+_, _*_, _/_, _%_, _^_, _<_, _≤_}
 use mathlib.Core.Path.{_≡_, refl, sym, ap, ap₂, _∙_}
 use mathlib.Core.List.{List, [], _∷_, _++_}
-use mathlib.Core.Bool.{Bool, true}
+use mathlib.Core.Bool.{Bool}
 use mathlib.Core.Logic.{inl, inr}
 use native.Mathlib.Omega.{arith}
 use native.Mathlib.Nat.{mod-eq-of-lt, mul-one}
 use lib.Bits.{bitXor, xor-comm, xor-self, xor-lt}
-use lib.Dec.{eqb}
 use lib.ListN.{length, getD, take, drop, take-append-drop, length-append, length-take, length-drop}
 use Rattle.std.specs.Orderings.{Decides}
 use Rattle.std.proofs.shelf.Lists.{drop-more, drop-all, ext-getD, getD-take, getD-drop, take-at, getD-at, getD-append-add, getD-append-left}
 use Rattle.std.proofs.shelf.Tests.{cases-eq, cases-lt}
-use Rattle.std.proofs.shelf.Ways.{decides-eqb, decides-like}
+use Rattle.std.proofs.shelf.Ways.{decides-eqb}
 use Rattle.check.specs.Register.{run, start, checkOf, wordBits, rowBits}
-use Rattle.check.specs.Burst.{Rows, Block, spelledAt, Fits, fitting, AlikeBut, Alone, Burst-never-passes, Ends-at-zero, withCheck, Checked-fits}
+use Rattle.check.specs.Burst.{Rows, Block, spelledAt, Fits, fitting, AlikeBut, Burst-never-passes, Ends-at-zero, withCheck, Checked-fits}
 use Rattle.check.proofs.Runs.{run-++, run-below, check-below, bits-++, words-none, words-more}
-use Rattle.check.proofs.Bytes.{word-low, word-parts, word-enters}
+use Rattle.check.proofs.Words.{word-low, word-parts, word-enters}
 use Rattle.check.proofs.Inverses.{xor-cancel, run-cancel}
 
 -- 32 bits: from one register, two numbers are told apart, and its own number alone takes it to 0
@@ -84,11 +83,11 @@ fits-if-zero rows k z =
     let hc = check-below (rowBits (take 14 rows)) in
     whole-apart c (spelledAt rows 14) c hc (spelled-below rows 14 k (omega arith)) hc (sym (block-run rows k) ∙ z ∙ sym (own-zero c hc))
 
+pub ends-at-zero : Ends-at-zero
+ends-at-zero rows k = (zero-if-fits rows k, fits-if-zero rows k)
+
 pub fitting-decides : (rows : List ℕ) → Decides (fitting rows) (Fits rows)
 fitting-decides rows = decides-eqb (spelledAt rows 14) (checkOf (rowBits (take 14 rows)))
-
-pub ends-at-zero : Ends-at-zero
-ends-at-zero rows k = decides-like (fitting rows) (zero-if-fits rows k) (fits-if-zero rows k) (fitting-decides rows)
 
 -- two blocks that fit and differ in rows n and n + 1 alone are one block
 module _ (rows others : List ℕ) (n : ℕ) (k : Block rows) (l : Block others) (h : n ≤ 14) (alike : AlikeBut n rows others) where

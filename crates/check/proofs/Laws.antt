@@ -1,13 +1,12 @@
 -- What callers need of blocks and their check.
-use Prim.Native.Nat.{ℕ, _*_, _+_, _/_, _%_, _^_, _<_}
-use mathlib.Core.Path.{_≡_, sym, ap₂, _∙_}
+use Prim.Native.Nat.{ℕ, _/_, _%_, _^_}
+use mathlib.Core.Path.{_≡_, ap₂, _∙_}
 use mathlib.Core.List.{List, [], _∷_, _++_}
 use native.Mathlib.Omega.{arith}
 use lib.ListN.{take, drop, getD, length-take}
 use Rattle.std.proofs.shelf.Lists.{drop-all, getD-take}
 use Rattle.check.specs.Register.{checkOf, rowBits}
-use Rattle.check.specs.Burst.{Rows, Block, spelledAt, Fits, withCheck}
-use Rattle.check.proofs.Runs.{check-below}
+use Rattle.check.specs.Burst.{Rows, Block, Fits, withCheck}
 use Rattle.check.proofs.Bursts.{around}
 
 -- the last two rows of a block are the halves of the check over the others exactly if it fits

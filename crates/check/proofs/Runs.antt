@@ -1,12 +1,13 @@
 -- Runs of the register, and the bits of words.
-use Prim.Native.Nat.{ℕ, zero, suc, _+_, _-_, _*_, _/_, _%_, _^_, _<_, _≤_}
+use Prim.Native.Nat.{ℕ, zero, suc, _+_, _*_, _%_, _^_, _<_, _≤_}
 use mathlib.Core.Path.{_≡_, refl, sym, ap, _∙_}
 use mathlib.Core.List.{List, [], _∷_, _++_, append-assoc}
 use mathlib.Core.Bool.{Bool, true, false}
 use native.Mathlib.Omega.{arith}
 use lib.Bits.{xor-lt}
-use lib.Dec.{leb, eqb}
-use lib.ListN.{length, length-append}
+use lib.Dec.{leb}
+use lib.ListN.{length, getD, drop}
+use Rattle.std.proofs.shelf.Lists.{at-drop-more, at-drop-all}
 use Rattle.check.specs.Register.{polynomial, unlike, shifted, step, run, start, checkOf, wordBits, bitsOf}
 
 pub run-none : (r : ℕ) → run r [] ≡ r
@@ -47,6 +48,16 @@ words-none n r = refl
 
 pub words-more : (n r w : ℕ) (words : List ℕ) → run r (bitsOf n (w ∷ words)) ≡ run (run r (wordBits n w)) (bitsOf n words)
 words-more n r w words = rw (bits-more n w words) (run-++ r (wordBits n w) (bitsOf n words))
+
+-- and in a loop over them: one word on, and at the end
+pub drop-more-run : (n r s : ℕ) (words : List ℕ) (i : ℕ) → i < length words → s ≡ run r (wordBits n (getD words i 0)) → run s (bitsOf n (drop (i + 1) words)) ≡ run r (bitsOf n (drop i words))
+drop-more-run n r s words i h e =
+    ap (λ (x : ℕ). run x (bitsOf n (drop (i + 1) words))) e
+    ∙ sym (words-more n r (getD words i 0) (drop (i + 1) words))
+    ∙ sym (at-drop-more (λ (l : List ℕ). run r (bitsOf n l)) words i 0 h)
+
+pub drop-all-run : (n r : ℕ) (words : List ℕ) (i : ℕ) → length words ≤ i → r ≡ run r (bitsOf n (drop i words))
+drop-all-run n r words i h = sym (words-none n r) ∙ sym (at-drop-all (λ (l : List ℕ). run r (bitsOf n l)) words i h)
 
 -- the register stays within its 32 bits
 pub shifted-below : (f : Bool) (r : ℕ) → shifted f r < 2 ^ 32

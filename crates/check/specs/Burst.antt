@@ -5,7 +5,6 @@ use mathlib.Core.List.{List, [], _∷_, _++_}
 use mathlib.Core.Bool.{Bool}
 use lib.Dec.{eqb}
 use lib.ListN.{length, getD, take}
-use Rattle.std.specs.Orderings.{Decides}
 use Rattle.check.specs.Register.{checkOf, rowBits}
 
 -- n rows of 16 bits
@@ -40,7 +39,7 @@ Burst-never-passes = (rows : List ℕ) → Block rows → Fits rows → Alone ro
 
 -- a block fits exactly if the register over all its 16 rows ends at 0
 abbrev pub Ends-at-zero : Type 0
-Ends-at-zero = (rows : List ℕ) → Block rows → Decides (fitting rows) (checkOf (rowBits rows) ≡ 0)
+Ends-at-zero = (rows : List ℕ) → Block rows → (Fits rows → checkOf (rowBits rows) ≡ 0) × (checkOf (rowBits rows) ≡ 0 → Fits rows)
 
 -- rows and after them the two halves of the check over them, the high half first
 abbrev pub withCheck : List ℕ → List ℕ

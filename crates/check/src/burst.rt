@@ -6,8 +6,8 @@ ghost use Rattle.check.specs.Register.{checkOf, rowBits};
 ghost use Rattle.check.specs.Burst.{spelledAt, Fits, fitting, Alone, withCheck, Burst-never-passes, Ends-at-zero, Checked-fits};
 use crate::register::of_rows;
 
-// Whether the check of a block fits. It does exactly if the register over all 16 rows ends at 0; and if it does, then
-// no other block fits that differs from this one within two neighbouring rows.
+// Whether the check of a block fits: exactly if the register over all 16 rows ends at 0. If it does, then no other block
+// fits that differs from this one within two neighbouring rows.
 pub fn fits(rows: &[u16; 16]) -> bool
     ensures value { λ r. ⌜ r ≡ fitting (now (rows .entry)) ⌝ }
     ensures decides { λ r. ⌜ Decides r (Fits (now (rows .entry))) ⌝ }
@@ -17,7 +17,7 @@ pub fn fits(rows: &[u16; 16]) -> bool
     is_fitting(rows)
 }
 
-// Rows with their check fit, and no burst within two neighbouring rows of them does.
+// The rows with their check after them. This block fits, and no other does that differs from it within two neighbouring rows.
 pub fn with_check(rows: &[u16; 14]) -> [u16; 16]
     ensures value { λ r. ⌜ r ≡ withCheck (now (rows .entry)) ⌝ }
     ensures fits { λ r. ⌜ Fits r ⌝ }
@@ -26,7 +26,7 @@ pub fn with_check(rows: &[u16; 14]) -> [u16; 16]
     checked(rows)
 }
 
-// The laws of blocks, for a program to call.
+// The laws of all blocks, as a program has them by calling this.
 pub fn burst_never_passes()
     ensures burst { λ _. ⌜ Burst-never-passes ⌝ }
     ensures ends { λ _. ⌜ Ends-at-zero ⌝ }

@@ -1,8 +1,6 @@
-use borrow.Author.Needs.{needs}
-use Rattle.std.proofs.shelf.Ways.{decides-eqb, decides-at}
-use Rattle.check.specs.Register.{checkOf, rowBits}
-use Rattle.check.specs.Burst.{Block, spelledAt, fitting}
-use Rattle.check.proofs.Bursts.{burst-never-passes, ends-at-zero, fitting-decides}
+use Rattle.std.proofs.shelf.Ways.{decides-at, decides-like}
+use Rattle.check.specs.Burst.{Block, fitting}
+use Rattle.check.proofs.Bursts.{burst-never-passes, zero-if-fits, fits-if-zero, fitting-decides}
 use Rattle.check.proofs.burst.fits.Needs as need
 
 pub returns : need.returns
@@ -15,6 +13,6 @@ returns c =
     record {
       value = e;
       decides = d;
-      zero = decides-at r (fitting rows) e (ends-at-zero rows block);
+      zero = decides-like r (zero-if-fits rows block) (fits-if-zero rows block) d;
       alone = λ t. burst-never-passes rows block (d .0 t);
     }

@@ -1,7 +1,4 @@
-use borrow.Author.Needs.{needs}
 use mathlib.Core.Path.{sym, subst}
-use mathlib.Core.List.{List}
-use Prim.Native.Nat.{ℕ}
 use Rattle.check.specs.Burst.{Rows, Fits, Alone, withCheck}
 use Rattle.check.proofs.Bursts.{burst-never-passes, checked-block, checked-spelled}
 use Rattle.check.proofs.burst.with_check.Needs as need
