@@ -8,10 +8,9 @@ ghost use Rattle.std.specs.Orderings.{Decides};
 ghost use Rattle.std.specs.Results.{isOk};
 ghost use Rattle.std.specs.Vec.{made};
 ghost use Rattle.std.specs.declared.result.Result.the-variants.{Ok};
-ghost use Rattle.check.specs.Burst.{withCheck};
 ghost use Rattle.block.specs.Code.{encoded, decoded, WellFormed, NoneNear, OnlyThese};
 use check::fits;
-use check::of_rows;
+use check::with_check;
 use fault::Fault;
 use record::Block;
 use record::block_of;
@@ -73,16 +72,5 @@ fn data_of(rows: &[u16; 16]) -> [u16; 14]
     [
         rows[0], rows[1], rows[2], rows[3], rows[4], rows[5], rows[6], rows[7], rows[8], rows[9],
         rows[10], rows[11], rows[12], rows[13],
-    ]
-}
-
-// The data rows, and the check over them.
-fn with_check(rows: &[u16; 14]) -> [u16; 16]
-    ensures { λ r. ⌜ r ≡ withCheck (now (rows .entry)) ⌝ }
-{
-    let check = of_rows(rows);
-    [
-        rows[0], rows[1], rows[2], rows[3], rows[4], rows[5], rows[6], rows[7], rows[8], rows[9],
-        rows[10], rows[11], rows[12], rows[13], (check / 65536) as u16, (check % 65536) as u16,
     ]
 }
