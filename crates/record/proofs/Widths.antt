@@ -38,3 +38,19 @@ within r h =
       mb-vert-field-sel = ltb-true _ _ (k .2);
       coded-block-pattern = ltb-true _ _ (k .3)
     }
+
+-- and back: what is within each width passes
+three-from : (a b c : Bool) → a ≡ true → b ≡ true → c ≡ true → (a && b && c) ≡ true
+three-from a b c p q r = and-from (a && b) c (and-from a b p q) r
+
+four-from : (a b c d : Bool) → a ≡ true → b ≡ true → c ≡ true → d ≡ true → (a && b && c && d) ≡ true
+four-from a b c d p q r s = and-from (a && b && c) d (three-from a b c p q r) s
+
+pub passes : (r : Record) → Within r → fitsWidths r ≡ true
+unfolding fitsWidths
+passes r h =
+    four-from (horizontalsFit r) (verticalsFit r) (countsFit r) (codesFit r)
+      (four-from _ _ _ _ (h .mv000) (h .mv010) (h .mv100) (h .mv110))
+      (four-from _ _ _ _ (h .mv001) (h .mv011) (h .mv101) (h .mv111))
+      (three-from _ _ _ (lt-ltb _ _ (h .num-other-bits)) (lt-ltb _ _ (h .num-mv-bits)) (lt-ltb _ _ (h .num-coef-bits)))
+      (four-from _ _ _ _ (lt-ltb _ _ (h .motion-type)) (lt-ltb _ _ (h .q-scale-code)) (lt-ltb _ _ (h .mb-vert-field-sel)) (lt-ltb _ _ (h .coded-block-pattern)))

@@ -108,7 +108,7 @@ abbrev same : Name → Name → Bool
 same n m = eqb (numberOf n) (numberOf m)
 
 -- the width of a part, and of parts together
-abbrev partWidth : Part → ℕ
+abbrev pub partWidth : Part → ℕ
 partWidth (field n w) = w
 partWidth (bits n high low) = suc high - low
 partWidth (reserved w) = w
@@ -252,7 +252,7 @@ unfoldable pub dataRows : Block → List ℕ
 dataRows b = rowsWith (valuesOf b)
 
 -- the bits of a row at a part, where other parts follow it
-abbrev cut : Part → List Part → ℕ → ℕ
+abbrev pub cut : Part → List Part → ℕ → ℕ
 cut p after row = row / 2 ^ width after % 2 ^ partWidth p
 
 -- what the rows have of a field, found by walking the table

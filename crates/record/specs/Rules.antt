@@ -11,30 +11,30 @@ use Rattle.std.specs.declared.result.Result.{Result}
 use Rattle.std.specs.declared.result.Result.the-variants.{Ok, Err}
 use Rattle.record.specs.declared.record.Record.{Record}
 use Rattle.record.specs.declared.record.Block.{Block}
-use Rattle.record.specs.Layout.{Name, Mv000, Mv001, Mv010, Mv011, Mv100, Mv101, Mv110, Mv111, MotionType, NumOtherBits, NumMvBits, QScaleCode, MbVertFieldSel, NumCoefBits, CodedBlockPattern, widthOf, dataRows}
+use Rattle.record.specs.Layout.{Mv000, Mv001, Mv010, Mv011, Mv100, Mv101, Mv110, Mv111, MotionType, NumOtherBits, NumMvBits, QScaleCode, MbVertFieldSel, NumCoefBits, CodedBlockPattern, widthOf, dataRows}
 
--- a number, and a signed number in two's complement, fits the width of its field
-abbrev pub fits : Name → ℕ → Bool
-fits n x = ltb x (2 ^ widthOf n)
+-- a number fits so many bits, and a signed number fits them in two's complement
+abbrev pub fits : ℕ → ℕ → Bool
+fits w x = ltb x (2 ^ w)
 
-abbrev pub fitsSigned : Name → ℤ → Bool
-fitsSigned n (pos x) = ltb x (2 ^ (widthOf n - 1))
-fitsSigned n (negsuc x) = ltb x (2 ^ (widthOf n - 1))
+abbrev pub fitsSigned : ℕ → ℤ → Bool
+fitsSigned w (pos n) = ltb n (2 ^ (w - 1))
+fitsSigned w (negsuc n) = ltb n (2 ^ (w - 1))
 
 -- the horizontal and the vertical vectors, the counts of bits, and the codes
 abbrev pub horizontalsFit : Record → Bool
-horizontalsFit r = fitsSigned Mv000 (r .mv000) && fitsSigned Mv010 (r .mv010) && fitsSigned Mv100 (r .mv100) && fitsSigned Mv110 (r .mv110)
+horizontalsFit r = fitsSigned (widthOf Mv000) (r .mv000) && fitsSigned (widthOf Mv010) (r .mv010) && fitsSigned (widthOf Mv100) (r .mv100) && fitsSigned (widthOf Mv110) (r .mv110)
 
 abbrev pub verticalsFit : Record → Bool
-verticalsFit r = fitsSigned Mv001 (r .mv001) && fitsSigned Mv011 (r .mv011) && fitsSigned Mv101 (r .mv101) && fitsSigned Mv111 (r .mv111)
+verticalsFit r = fitsSigned (widthOf Mv001) (r .mv001) && fitsSigned (widthOf Mv011) (r .mv011) && fitsSigned (widthOf Mv101) (r .mv101) && fitsSigned (widthOf Mv111) (r .mv111)
 
 abbrev pub countsFit : Record → Bool
-countsFit r = fits NumOtherBits (r .«num_other_bits») && fits NumMvBits (r .«num_mv_bits») && fits NumCoefBits (r .«num_coef_bits»)
+countsFit r = fits (widthOf NumOtherBits) (r .«num_other_bits») && fits (widthOf NumMvBits) (r .«num_mv_bits») && fits (widthOf NumCoefBits) (r .«num_coef_bits»)
 
 abbrev pub codesFit : Record → Bool
 codesFit r =
-    fits MotionType (r .«motion_type») && fits QScaleCode (r .«q_scale_code») && fits MbVertFieldSel (r .«mb_vert_field_sel»)
-    && fits CodedBlockPattern (r .«coded_block_pattern»)
+    fits (widthOf MotionType) (r .«motion_type») && fits (widthOf QScaleCode) (r .«q_scale_code») && fits (widthOf MbVertFieldSel) (r .«mb_vert_field_sel»)
+    && fits (widthOf CodedBlockPattern) (r .«coded_block_pattern»)
 
 -- every component fits its width; a flag always does
 unfoldable pub fitsWidths : Record → Bool
@@ -42,14 +42,14 @@ fitsWidths r = horizontalsFit r && verticalsFit r && countsFit r && codesFit r
 
 -- the same, component by component
 pub record Within (r : Record) : Type 0 where
-  pub mv000 : fitsSigned Mv000 (r .mv000) ≡ true
-  pub mv001 : fitsSigned Mv001 (r .mv001) ≡ true
-  pub mv010 : fitsSigned Mv010 (r .mv010) ≡ true
-  pub mv011 : fitsSigned Mv011 (r .mv011) ≡ true
-  pub mv100 : fitsSigned Mv100 (r .mv100) ≡ true
-  pub mv101 : fitsSigned Mv101 (r .mv101) ≡ true
-  pub mv110 : fitsSigned Mv110 (r .mv110) ≡ true
-  pub mv111 : fitsSigned Mv111 (r .mv111) ≡ true
+  pub mv000 : fitsSigned (widthOf Mv000) (r .mv000) ≡ true
+  pub mv001 : fitsSigned (widthOf Mv001) (r .mv001) ≡ true
+  pub mv010 : fitsSigned (widthOf Mv010) (r .mv010) ≡ true
+  pub mv011 : fitsSigned (widthOf Mv011) (r .mv011) ≡ true
+  pub mv100 : fitsSigned (widthOf Mv100) (r .mv100) ≡ true
+  pub mv101 : fitsSigned (widthOf Mv101) (r .mv101) ≡ true
+  pub mv110 : fitsSigned (widthOf Mv110) (r .mv110) ≡ true
+  pub mv111 : fitsSigned (widthOf Mv111) (r .mv111) ≡ true
   pub motion-type : r .«motion_type» < 2 ^ widthOf MotionType
   pub num-other-bits : r .«num_other_bits» < 2 ^ widthOf NumOtherBits
   pub num-mv-bits : r .«num_mv_bits» < 2 ^ widthOf NumMvBits

@@ -6,6 +6,9 @@ ghost use Rattle.record.specs.Layout.{layout, Sync, Element, found, synced, cl
 use crate::Block;
 use crate::PictureFlags;
 use crate::Record;
+use crate::record::MbFlags;
+use crate::record::Numbers;
+use crate::record::Vectors;
 
 pub fn has_sync(rows: &[u16; 14]) -> bool
     ensures { λ r. ⌜ r ≡ synced (now (rows .entry)) ⌝ }
@@ -63,22 +66,10 @@ fn vector_9(row: u16) -> i16
     if bits < 256 { bits } else { bits - 512 }
 }
 
-#[derive(Clone, Copy)]
-struct Flags {
-    mb_quant: bool,
-    mb_mfwd: bool,
-    mb_mbwd: bool,
-    mb_pattern: bool,
-    mb_intra: bool,
-    dct_type: bool,
-    skipped_mb: bool,
-    slice_start_flag: bool,
-}
-
-fn mb_flags_of(rows: &[u16; 14]) -> Flags
+fn mb_flags_of(rows: &[u16; 14]) -> MbFlags
     ensures { λ r. ⌜ r ≡ record { «mb_quant» = recordWith (found (now (rows .entry))) .«mb_quant»; «mb_mfwd» = recordWith (found (now (rows .entry))) .«mb_mfwd»; «mb_mbwd» = recordWith (found (now (rows .entry))) .«mb_mbwd»; «mb_pattern» = recordWith (found (now (rows .entry))) .«mb_pattern»; «mb_intra» = recordWith (found (now (rows .entry))) .«mb_intra»; «dct_type» = recordWith (found (now (rows .entry))) .«dct_type»; «skipped_mb» = recordWith (found (now (rows .entry))) .«skipped_mb»; «slice_start_flag» = recordWith (found (now (rows .entry))) .«slice_start_flag» } ⌝ }
 {
-    Flags {
+    MbFlags {
         mb_quant: rows[0] / 32 % 2 == 1,
         mb_mfwd: rows[0] / 16 % 2 == 1,
         mb_mbwd: rows[0] / 8 % 2 == 1,
@@ -88,18 +79,6 @@ fn mb_flags_of(rows: &[u16; 14]) -> Flags
         skipped_mb: rows[4] % 2 == 1,
         slice_start_flag: rows[6] / 4 % 2 == 1,
     }
-}
-
-#[derive(Clone, Copy)]
-struct Vectors {
-    mv000: i16,
-    mv001: i16,
-    mv010: i16,
-    mv011: i16,
-    mv100: i16,
-    mv101: i16,
-    mv110: i16,
-    mv111: i16,
 }
 
 fn vectors_of(rows: &[u16; 14]) -> Vectors
@@ -115,17 +94,6 @@ fn vectors_of(rows: &[u16; 14]) -> Vectors
         mv110: vector_13(rows[10]),
         mv111: vector_9(rows[11]),
     }
-}
-
-#[derive(Clone, Copy)]
-struct Numbers {
-    motion_type: u8,
-    num_other_bits: u8,
-    num_mv_bits: u8,
-    q_scale_code: u8,
-    mb_vert_field_sel: u8,
-    num_coef_bits: u16,
-    coded_block_pattern: u8,
 }
 
 fn numbers_of(rows: &[u16; 14]) -> Numbers

@@ -2,7 +2,7 @@
 ghost use mathlib.Core.Path.{_≡_};
 ghost use mathlib.Core.Bool.{true};
 ghost use Prim.Native.Nat.{ℕ, _+_, _*_, _/_, _%_, _^_, _<_};
-ghost use Rattle.record.specs.Layout.{Mv000, Mv001, bit, twos, rowOf, dataRows};
+ghost use Rattle.record.specs.Layout.{bit, twos, rowOf, dataRows};
 ghost use Rattle.record.specs.Rules.{fitsSigned, Within, encoded};
 use crate::Block;
 use crate::PictureFlags;
@@ -173,7 +173,7 @@ fn number(flag: bool) -> u16
 }
 
 fn bits_13(x: i16) -> u16
-    requires { ⌜ fitsSigned Mv000 x ≡ true ⌝ }
+    requires { ⌜ fitsSigned 13 x ≡ true ⌝ }
     ensures value { λ r. ⌜ r ≡ twos 13 x ⌝ }
     ensures small { λ r. ⌜ r < 8192 ⌝ }
 {
@@ -181,7 +181,7 @@ fn bits_13(x: i16) -> u16
 }
 
 fn bits_9(x: i16) -> u16
-    requires { ⌜ fitsSigned Mv001 x ≡ true ⌝ }
+    requires { ⌜ fitsSigned 9 x ≡ true ⌝ }
     ensures value { λ r. ⌜ r ≡ twos 9 x ⌝ }
     ensures small { λ r. ⌜ r < 512 ⌝ }
 {
