@@ -1,0 +1,6 @@
+mod Fields
+mod Rows
+mod Signs
+mod Values
+mod Widths
+pub mod Laws

@@ -1,0 +1,189 @@
+// The data rows of a block.
+ghost use mathlib.Core.Path.{_≡_};
+ghost use mathlib.Core.Bool.{true};
+ghost use Prim.Native.Nat.{ℕ, _+_, _*_, _/_, _%_, _^_, _<_};
+ghost use Rattle.record.specs.Layout.{bit, twos, rowOf, dataRows};
+ghost use Rattle.record.specs.Rules.{fitsSigned, Within, encoded};
+use crate::Block;
+use crate::PictureFlags;
+use crate::Record;
+use crate::check_record;
+use fault::Fault;
+
+pub fn data_rows(block: &Block) -> Result<[u16; 14], Fault>
+    ensures { λ r. ⌜ r ≡ encoded (now (block .entry)) ⌝ }
+{
+    check_record(&block.record)?;
+    Ok(rows_of(block))
+}
+
+fn rows_of(block: &Block) -> [u16; 14]
+    requires { ⌜ Within (now block .«record») ⌝ }
+    ensures { λ r. ⌜ r ≡ dataRows (now (block .entry)) ⌝ }
+{
+    [
+        row_0(block),
+        row_1(block),
+        row_2(block),
+        row_3(block),
+        row_4(block),
+        row_5(block),
+        row_6(block),
+        row_7(block),
+        row_8(block),
+        row_9(block),
+        row_10(block),
+        row_11(block),
+        row_12(block),
+        row_13(block),
+    ]
+}
+
+fn row_0(block: &Block) -> u16
+    ensures { λ r. ⌜ r ≡ rowOf (now (block .entry)) 0 ⌝ }
+{
+    31 * 2048 + picture_bits(&block.picture) * 64 + macroblock_bits(&block.record)
+}
+
+fn picture_bits(flags: &PictureFlags) -> u16
+    ensures value { λ r. ⌜ r ≡ bit (now (flags .entry) .«fr_fl_srib») * 16 + bit (now (flags .entry) .«top_field_first») * 8 + bit (now (flags .entry) .«repeat_first_field») * 4 + bit (now (flags .entry) .«chroma_422_420») * 2 + bit (now (flags .entry) .«q_scale_type») ⌝ }
+    ensures small { λ r. ⌜ r < 32 ⌝ }
+{
+    number(flags.fr_fl_srib) * 16
+        + number(flags.top_field_first) * 8
+        + number(flags.repeat_first_field) * 4
+        + number(flags.chroma_422_420) * 2
+        + number(flags.q_scale_type)
+}
+
+fn macroblock_bits(record: &Record) -> u16
+    ensures value { λ r. ⌜ r ≡ bit (now («record» .entry) .«mb_quant») * 32 + bit (now («record» .entry) .«mb_mfwd») * 16 + bit (now («record» .entry) .«mb_mbwd») * 8 + bit (now («record» .entry) .«mb_pattern») * 4 + bit (now («record» .entry) .«mb_intra») * 2 + bit (now («record» .entry) .«dct_type») ⌝ }
+    ensures small { λ r. ⌜ r < 64 ⌝ }
+{
+    number(record.mb_quant) * 32
+        + number(record.mb_mfwd) * 16
+        + number(record.mb_mbwd) * 8
+        + number(record.mb_pattern) * 4
+        + number(record.mb_intra) * 2
+        + number(record.dct_type)
+}
+
+fn row_1(block: &Block) -> u16
+    ensures { λ r. ⌜ r ≡ rowOf (now (block .entry)) 1 ⌝ }
+{
+    block.reference
+}
+
+fn row_2(block: &Block) -> u16
+    ensures { λ r. ⌜ r ≡ rowOf (now (block .entry)) 2 ⌝ }
+{
+    (block.element / 65536) as u16
+}
+
+fn row_3(block: &Block) -> u16
+    ensures { λ r. ⌜ r ≡ rowOf (now (block .entry)) 3 ⌝ }
+{
+    (block.element % 65536) as u16
+}
+
+fn row_4(block: &Block) -> u16
+    requires { ⌜ Within (now block .«record») ⌝ }
+    ensures { λ r. ⌜ r ≡ rowOf (now (block .entry)) 4 ⌝ }
+{
+    let record = &block.record;
+    bits_13(record.mv000) * 8 + u16::from(record.motion_type) * 2 + number(record.skipped_mb)
+}
+
+fn row_5(block: &Block) -> u16
+    requires { ⌜ Within (now block .«record») ⌝ }
+    ensures { λ r. ⌜ r ≡ rowOf (now (block .entry)) 5 ⌝ }
+{
+    let record = &block.record;
+    bits_9(record.mv001) * 128 + u16::from(record.num_other_bits)
+}
+
+fn row_6(block: &Block) -> u16
+    requires { ⌜ Within (now block .«record») ⌝ }
+    ensures { λ r. ⌜ r ≡ rowOf (now (block .entry)) 6 ⌝ }
+{
+    let record = &block.record;
+    bits_13(record.mv010) * 8 + number(record.slice_start_flag) * 4
+}
+
+fn row_7(block: &Block) -> u16
+    requires { ⌜ Within (now block .«record») ⌝ }
+    ensures { λ r. ⌜ r ≡ rowOf (now (block .entry)) 7 ⌝ }
+{
+    let record = &block.record;
+    bits_9(record.mv011) * 128 + u16::from(record.num_mv_bits / 4) * 2
+}
+
+fn row_8(block: &Block) -> u16
+    requires { ⌜ Within (now block .«record») ⌝ }
+    ensures { λ r. ⌜ r ≡ rowOf (now (block .entry)) 8 ⌝ }
+{
+    let record = &block.record;
+    bits_13(record.mv100) * 8
+}
+
+fn row_9(block: &Block) -> u16
+    requires { ⌜ Within (now block .«record») ⌝ }
+    ensures { λ r. ⌜ r ≡ rowOf (now (block .entry)) 9 ⌝ }
+{
+    let record = &block.record;
+    bits_9(record.mv101) * 128 + u16::from(record.q_scale_code) * 4 + u16::from(record.num_mv_bits % 4)
+}
+
+fn row_10(block: &Block) -> u16
+    requires { ⌜ Within (now block .«record») ⌝ }
+    ensures { λ r. ⌜ r ≡ rowOf (now (block .entry)) 10 ⌝ }
+{
+    let record = &block.record;
+    bits_13(record.mv110) * 8
+}
+
+fn row_11(block: &Block) -> u16
+    requires { ⌜ Within (now block .«record») ⌝ }
+    ensures { λ r. ⌜ r ≡ rowOf (now (block .entry)) 11 ⌝ }
+{
+    let record = &block.record;
+    bits_9(record.mv111) * 128 + u16::from(record.mb_vert_field_sel) * 8
+}
+
+fn row_12(block: &Block) -> u16
+    requires { ⌜ Within (now block .«record») ⌝ }
+    ensures { λ r. ⌜ r ≡ rowOf (now (block .entry)) 12 ⌝ }
+{
+    let record = &block.record;
+    record.num_coef_bits * 4
+}
+
+fn row_13(block: &Block) -> u16
+    ensures { λ r. ⌜ r ≡ rowOf (now (block .entry)) 13 ⌝ }
+{
+    let record = &block.record;
+    u16::from(record.coded_block_pattern) * 256
+}
+
+fn number(flag: bool) -> u16
+    ensures value { λ r. ⌜ r ≡ bit flag ⌝ }
+    ensures small { λ r. ⌜ r < 2 ⌝ }
+{
+    u16::from(flag)
+}
+
+fn bits_13(x: i16) -> u16
+    requires { ⌜ fitsSigned 13 x ≡ true ⌝ }
+    ensures value { λ r. ⌜ r ≡ twos 13 x ⌝ }
+    ensures small { λ r. ⌜ r < 8192 ⌝ }
+{
+    if x < 0 { (x + 8192) as u16 } else { x as u16 }
+}
+
+fn bits_9(x: i16) -> u16
+    requires { ⌜ fitsSigned 9 x ≡ true ⌝ }
+    ensures value { λ r. ⌜ r ≡ twos 9 x ⌝ }
+    ensures small { λ r. ⌜ r < 512 ⌝ }
+{
+    if x < 0 { (x + 512) as u16 } else { x as u16 }
+}
