@@ -9,11 +9,11 @@ use Rattle.std.specs.Results.{isOk}
 use Rattle.std.specs.declared.result.Result.{Result}
 use Rattle.std.specs.declared.result.Result.the-variants.{Ok, Err}
 use Rattle.fault.specs.declared.Fault.{Fault}
-use Rattle.fault.specs.declared.Fault.the-variants.{ComponentWidth, Sync, BlockCheck, ReservedBit, ReferenceRange, RecordRule}
+use Rattle.fault.specs.declared.Fault.the-variants.{Sync, BlockCheck, ReservedBit, ReferenceRange, RecordRule}
 use Rattle.check.specs.Burst.{Rows, AlikeBut, Fits, fitting, withCheck}
 use Rattle.record.specs.declared.record.Block.{Block}
 use Rattle.record.specs.Layout.{dataRows, blockIn, synced, clear}
-use Rattle.record.specs.Rules.{fitsWidths, keepsRules}
+use Rattle.record.specs.Rules.{keepsRules, checked}
 
 -- refuse if the test holds, else go on
 abbrev pub refuse : {A : Type 0} → Bool → Fault → Result A Fault → Result A Fault
@@ -23,12 +23,14 @@ refuse test fault rest = cond test (Err fault) rest
 abbrev pub rowsOf : Block → List ℕ
 rowsOf b = withCheck (dataRows b)
 
--- encoding: 12, 17, else the rows
+-- go on with what was accepted
+abbrev pub then : {A B : Type 0} → Result A Fault → (A → Result B Fault) → Result B Fault
+then (Ok x) next = next x
+then (Err fault) next = Err fault
+
+-- encoding: 12 and 17 for the record, else the rows
 abbrev pub encoded : Block → Result (List ℕ) Fault
-encoded b =
-    refuse (not (fitsWidths (b .«record»))) ComponentWidth
-    (refuse (not (keepsRules (b .«record»))) RecordRule
-    (Ok (rowsOf b)))
+encoded b = then (checked (b .«record»)) (λ _. Ok (rowsOf b))
 
 -- the block that rows spell, in their first 14
 abbrev pub blockOf : List ℕ → Block

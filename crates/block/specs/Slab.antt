@@ -1,22 +1,16 @@
 -- A block in a column of a slab.
 use Prim.Native.Nat.{ℕ}
-use mathlib.Core.Bool.{Bool, true, false}
 use mathlib.Core.List.{List}
 use Rattle.std.specs.declared.result.Result.{Result}
-use Rattle.std.specs.declared.result.Result.the-variants.{Ok, Err}
+use Rattle.std.specs.declared.result.Result.the-variants.{Ok}
 use Rattle.fault.specs.declared.Fault.{Fault}
 use Rattle.column.specs.Column.{within, carriedRows}
 use Rattle.record.specs.declared.record.Block.{Block}
-use Rattle.block.specs.Code.{encoded, decoded}
-
--- go on with what was accepted
-abbrev pub then : {A B : Type 0} → Result A Fault → (A → Result B Fault) → Result B Fault
-then (Ok x) next = next x
-then (Err fault) next = Err fault
+use Rattle.block.specs.Code.{then, encoded, decoded}
 
 -- writing: 10 and 11 for the slab and the column, then 12 and 17 for the block; the answer is the rows that are embedded
 abbrev pub writable : ℕ → ℕ → ℕ → Block → Result (List ℕ) Fault
-writable rows words column b = then (within rows words column tt) (λ _. encoded b)
+writable rows words column b = then (within {A = Unit {0}} rows words column tt) (λ _. encoded b)
 
 -- done, where what was accepted is no part of the answer
 abbrev pub done : {A : Type 0} → Result A Fault → Result (Unit {0}) Fault

@@ -2,7 +2,7 @@
 ghost use mathlib.Core.Path.{_≡_};
 ghost use mathlib.Core.List.{List};
 ghost use mathlib.Core.Bool.{true};
-ghost use Prim.Native.Nat.{ℕ, _≤_};
+ghost use Prim.Native.Nat.{ℕ, _^_, _<_, _≤_};
 ghost use lib.ListN.{take};
 ghost use Rattle.std.specs.Orderings.{Decides};
 ghost use Rattle.std.specs.Results.{isOk};
@@ -26,8 +26,7 @@ pub fn encode(block: &Block) -> Result<[u16; 16], Fault>
     ensures answer { λ r. ⌜ r ≡ encoded (now (block .entry)) ⌝ }
     ensures back { λ r. ⌜ (now (block .entry) .reference ≤ 65520 → made r (λ rows. decoded rows ≡ Ok (now (block .entry)))) ⌝ }
 {
-    let rows = data_rows(block)?;
-    Ok(with_check(&rows))
+    rows_of(block)
 }
 
 // The block in 16 rows. It accepts exactly the well-formed ones, and encoding gives them back.
@@ -39,6 +38,14 @@ pub fn decode(rows: &[u16; 16]) -> Result<Block, Fault>
     ensures burst { λ r. ⌜ made r (λ _. NoneNear (now (rows .entry))) ⌝ }
 {
     judge(rows)
+}
+
+fn rows_of(block: &Block) -> Result<[u16; 16], Fault>
+    ensures answer { λ r. ⌜ r ≡ encoded (now (block .entry)) ⌝ }
+    ensures element { λ r. ⌜ made r (λ _. now (block .entry) .element < 2 ^ 32) ⌝ }
+{
+    let data = data_rows(block)?;
+    Ok(with_check(&data))
 }
 
 // The tests, in checking order.
@@ -69,8 +76,7 @@ fn judge(rows: &[u16; 16]) -> Result<Block, Fault>
 fn data_of(rows: &[u16; 16]) -> [u16; 14]
     ensures { λ r. ⌜ r ≡ take 14 (now (rows .entry)) ⌝ }
 {
-    [
-        rows[0], rows[1], rows[2], rows[3], rows[4], rows[5], rows[6], rows[7], rows[8], rows[9],
-        rows[10], rows[11], rows[12], rows[13],
-    ]
+    let mut data = [0; 14];
+    data.copy_from_slice(&rows[0..14]);
+    data
 }

@@ -42,11 +42,11 @@ pub fn carried<R: Raster>(slab: &R, column: usize) -> Result<[u16; 16], Fault>
     read_rows(slab, window)
 }
 
-// Whether the raster is a slab and the column lies wholly inside it.
-pub fn check_column<R: Raster>(slab: &R, column: usize) -> Result<(), Fault>
-    ensures { λ r. ⌜ r ≡ within (R·Raster .rows (now (slab .entry))) (R·Raster .words (now (slab .entry))) column tt ⌝ }
+// Whether a raster of this extent is a slab, and the column lies wholly inside it.
+pub fn check_column(extent: Extent, column: usize) -> Result<(), Fault>
+    ensures { λ r. ⌜ r ≡ within (extent .rows) (extent .words) column tt ⌝ }
 {
-    window_of(slab.extent(), column)?;
+    window_of(extent, column)?;
     Ok(())
 }
 

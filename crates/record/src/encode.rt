@@ -2,6 +2,7 @@
 ghost use mathlib.Core.Path.{_≡_};
 ghost use mathlib.Core.Bool.{true};
 ghost use Prim.Native.Nat.{ℕ, _+_, _*_, _/_, _%_, _^_, _<_};
+ghost use Rattle.std.specs.Vec.{made};
 ghost use Rattle.record.specs.Layout.{bit, twos, rowOf, dataRows};
 ghost use Rattle.record.specs.Rules.{fitsSigned, Within, encoded};
 use crate::Block;
@@ -11,7 +12,8 @@ use crate::check_record;
 use fault::Fault;
 
 pub fn data_rows(block: &Block) -> Result<[u16; 14], Fault>
-    ensures { λ r. ⌜ r ≡ encoded (now (block .entry)) ⌝ }
+    ensures answer { λ r. ⌜ r ≡ encoded (now (block .entry)) ⌝ }
+    ensures element { λ r. ⌜ made r (λ _. now (block .entry) .element < 2 ^ 32) ⌝ }
 {
     check_record(&block.record)?;
     Ok(rows_of(block))
@@ -19,7 +21,8 @@ pub fn data_rows(block: &Block) -> Result<[u16; 14], Fault>
 
 fn rows_of(block: &Block) -> [u16; 14]
     requires { ⌜ Within (now block .«record») ⌝ }
-    ensures { λ r. ⌜ r ≡ dataRows (now (block .entry)) ⌝ }
+    ensures rows { λ r. ⌜ r ≡ dataRows (now (block .entry)) ⌝ }
+    ensures element { λ _. ⌜ now (block .entry) .element < 2 ^ 32 ⌝ }
 {
     [
         row_0(block),
@@ -75,7 +78,8 @@ fn row_1(block: &Block) -> u16
 }
 
 fn row_2(block: &Block) -> u16
-    ensures { λ r. ⌜ r ≡ rowOf (now (block .entry)) 2 ⌝ }
+    ensures row { λ r. ⌜ r ≡ rowOf (now (block .entry)) 2 ⌝ }
+    ensures element { λ _. ⌜ now (block .entry) .element < 2 ^ 32 ⌝ }
 {
     (block.element / 65536) as u16
 }
