@@ -1,11 +1,11 @@
 // A block in a column of any slab.
 ghost use mathlib.Core.Path.{_≡_};
-ghost use mathlib.Core.Bool.{cond};
-ghost use Prim.Native.Nat.{ℕ, _<_, _≤_};
+ghost use mathlib.Core.Bool.{cond, false};
+ghost use Prim.Native.Nat.{ℕ, _+_, _*_, _/_, _<_, _≤_};
 ghost use Rattle.std.specs.declared.result.Result.the-variants.{Ok};
 ghost use Rattle.std.specs.Results.{isOk};
 ghost use Rattle.std.specs.Vec.{made};
-ghost use Rattle.column.specs.Column.{within, embedded};
+ghost use Rattle.column.specs.Column.{within, carrying, embedded, carriedRows};
 ghost use Rattle.block.specs.Code.{rowsOf, decoded};
 ghost use Rattle.block.specs.Slab.{done, writable, readable};
 use crate::code::decode;
@@ -26,6 +26,8 @@ pub fn write_block<R: Raster>(slab: &mut R, column: usize, block: &Block) -> Res
     ensures kept { λ _. ⌜ R·Raster .kept (now (slab .entry)) (now (slab .exit)) ⌝ }
     ensures after { λ r. ⌜ ((i j : ℕ) → i < R·Raster .rows (now (slab .entry)) → j < R·Raster .words (now (slab .entry)) → R·Raster .at (now (slab .exit)) i j ≡ cond (isOk r) (embedded (R·Raster .at (now (slab .entry))) column (rowsOf (now (block .entry))) i j) (R·Raster .at (now (slab .entry)) i j)) ⌝ }
     ensures reads { λ r. ⌜ (r ≡ Ok tt → now (block .entry) .reference ≤ 65520 → readable (R·Raster .rows (now (slab .exit))) (R·Raster .words (now (slab .exit))) column (R·Raster .at (now (slab .exit))) ≡ Ok (now (block .entry))) ⌝ }
+    ensures others { λ _. ⌜ ((c : ℕ) → (c ≡ column → ⊥) → 16 ≤ R·Raster .rows (now (slab .entry)) → 32 * c + 32 ≤ R·Raster .words (now (slab .entry)) → carriedRows (R·Raster .at (now (slab .exit))) c ≡ carriedRows (R·Raster .at (now (slab .entry))) c) ⌝ }
+    ensures only { λ _. ⌜ ((i j : ℕ) → i < R·Raster .rows (now (slab .entry)) → j < R·Raster .words (now (slab .entry)) → (R·Raster .at (now (slab .exit)) i j / 2 ≡ R·Raster .at (now (slab .entry)) i j / 2) × (carrying column i j ≡ false → R·Raster .at (now (slab .exit)) i j ≡ R·Raster .at (now (slab .entry)) i j)) ⌝ }
 {
     let rows = rows_for((*slab).extent(), column, block)?;
     embed(slab, column, &rows)
