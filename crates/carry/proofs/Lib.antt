@@ -1,1 +1,2 @@
 mod Stripes
+mod Benches

@@ -1,3 +1,4 @@
-pub mod Pattern
+pub mod Bench
 pub mod Stripe
 pub mod Line
+pub mod Slab

@@ -3,7 +3,7 @@ ghost use Rattle.std.specs.declared.option.Option.the-variants.{Some};
 ghost use Rattle.carry.specs.Line.{lineText};
 use std::fmt;
 
-// A stripe, the words that embedding moved in it, and the macroblocks whose rows were read back equal.
+// A stripe, the words that writing moved in it, and the macroblocks that were read as their blocks.
 #[derive(Clone, Copy, Debug)]
 pub struct StripeLine {
     pub stripe: usize,

@@ -1,4 +1,4 @@
-// Carries numbers through a bench picture: embeds them in three packed slabs, reads them back, and says what moved.
+// Carries blocks through a bench picture: writes them in three packed slabs, reads them back, and says what moved.
 ghost use mathlib.Core.Path.{_≡_};
 ghost use Rattle.std.specs.Of.Vec.{vec-len};
 ghost use Rattle.std.specs.Vec.{made};
@@ -11,8 +11,8 @@ use std::io;
 use std::io::Read;
 use stripe::carry_stripe;
 
+mod bench;
 mod line;
-mod pattern;
 mod stripe;
 
 const STRIPES: usize = 3;

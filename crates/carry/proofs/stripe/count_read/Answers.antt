@@ -1,28 +1,19 @@
 use borrow.Author.Needs.{needs}
 use native.Mathlib.Omega.{arith}
-use mathlib.Core.Path.{_≡_, refl, sym, ap, _∙_}
-use mathlib.Core.Bool.{true, false}
-use Prim.Native.Nat.{_+_}
-use Rattle.std.proofs.shelf.Equals.{matches-decides}
-use Rattle.column.specs.Column.{carriedRows}
-use Rattle.carry.specs.Pattern.{patternOf, position}
-use Rattle.carry.specs.Stripe.{equalRows}
-use Rattle.carry.proofs.Stripes.{count-none, count-more, rows-test, from-within}
+use mathlib.Core.Path.{_≡_, sym, subst}
+use Rattle.std.proofs.shelf.Ways.{not-from-decides}
+use Rattle.carry.specs.Stripe.{Reads, Counted, none, one, not}
 use Rattle.carry.proofs.stripe.count_read.Needs as need
-use Rattle.carry.proofs.stripe.count_read.Needs.{then-eq, else-eq}
+use Rattle.carry.proofs.stripe.count_read.Needs.{then-reads-back, else-reads-back}
 
 pub loop-column-holds : need.loop-column-holds
-loop-column-holds g c = (sym (count-none (g .R·Raster .at (c .args .slab .now)) (c .args .stripe)), search needs)
+loop-column-holds g c = (none, search needs)
 
 pub loop-column-again : need.loop-column-again
 loop-column-again g c =
-    let at = g .R·Raster .at (c .args .slab .now) in
-    let n = c .loop-column .column in
-    let more = count-more at (c .args .stripe) n in
-    let rows = from-within (g .R·Raster .rows (c .args .slab .now)) (g .R·Raster .words (c .args .slab .now)) n (carriedRows at n) (c .in-Continue-rows .rows) (c .in-Continue-rows .ensures tt) in
-    let test : c .eq .result ≡ equalRows (carriedRows at n) (patternOf (position (c .args .stripe) n)) =
-    rows-test _ _ (c .eq .result) (matches-decides _ _ _ (c .eq .ensures)) ∙ rw (rows, c .pattern .ensures) in
-    elim (c .if-eq .came) [
-      | then-eq w ↦ let t : equalRows (carriedRows at n) (patternOf (position (c .args .stripe) n)) ≡ true = sym test ∙ w .if-eq .taken in (w .read-is ∙ sym (more ∙ rw t (ap (λ x. x + 1) (sym (c .loop-column .inv .0)))), omega (arith, w .read-is))
-      | else-eq w ↦ let t : equalRows (carriedRows at n) (patternOf (position (c .args .stripe) n)) ≡ false = sym test ∙ w .if-eq .left in (w .read-is ∙ sym (more ∙ rw t (omega arith)), omega (arith, w .read-is))
+    let P = Reads (g .R·Raster .at (c .args .slab .now)) (c .args .stripe) in
+    let i = c .loop-column .inv in
+    elim (c .if-reads-back .came) [
+      then-reads-back w ↦ (subst (Counted P _) (sym (w .read-is)) (one (i .0) (c .reads-back .ensures .0 (w .if-reads-back .taken))), omega (arith, w .read-is))
+    | else-reads-back w ↦ (subst (Counted P _) (sym (w .read-is)) (not (i .0) (not-from-decides (c .reads-back .result) (c .reads-back .ensures) (w .if-reads-back .left))), omega (arith, w .read-is))
     ]

@@ -1,7 +1,7 @@
--- The columns so far carry their patterns.
+-- The columns so far are read as their blocks.
 use mathlib.Core.Path.{_≡_}
 use Rattle.carry.specs.Stripe.{Laden}
-use Rattle.carry.proofs.stripe.embed_stripe.Given as given
+use Rattle.carry.proofs.stripe.write_stripe.Given as given
 
 abbrev pub Inv-loop-column : given.InvT-loop-column
 Inv-loop-column g l =
