@@ -14,7 +14,7 @@ from pathlib import Path
 from typing import NamedTuple
 
 from raster import COLUMNS, SLAB_BYTES, Slab, moved_words, pack_slab, unpack_slab
-from scrambling import BLOCK_ROW_BITS, BLOCK_ROWS, Block, embed_block, read_block
+from scrambling import BLOCK_ROW_BITS, BLOCK_ROWS, Rows, embed_rows, read_rows
 
 STRIPES = 3
 PICTURE_BYTES = STRIPES * SLAB_BYTES
@@ -28,7 +28,7 @@ class Carried(NamedTuple):
     packed: bytes
 
 
-def known_block(position: int) -> Block:
+def known_block(position: int) -> Rows:
     """Return the block embedded at a position, 45 x stripe + column."""
     return [
         (BLOCK_ROWS * position + row) * MULTIPLIER % (1 << BLOCK_ROW_BITS)
@@ -50,11 +50,11 @@ def carry_stripe(stripe: int, before: Slab) -> Carried:
     blocks = [known_block(COLUMNS * stripe + column) for column in range(COLUMNS)]
     after = [row.copy() for row in before]
     for column, block in enumerate(blocks):
-        embed_block(after, column, block)
+        embed_rows(after, column, block)
     # Read from the packed bytes, which are what a receiver has.
     packed = pack_slab(after)
     received = unpack_slab(packed)
-    read = sum(read_block(received, column) == block for column, block in enumerate(blocks))
+    read = sum(read_rows(received, column) == block for column, block in enumerate(blocks))
     text = f"stripe {stripe} moved {moved_words(before, after)} read {read}\n"
     return Carried(text, packed)
 

@@ -18,7 +18,7 @@ from raster import (
     unpack_slab,
     unpack_words,
 )
-from scrambling import BLOCK_ROW_BITS, BLOCK_ROWS, descramble, embed_block, read_block, scramble
+from scrambling import BLOCK_ROW_BITS, BLOCK_ROWS, descramble, embed_rows, read_rows, scramble
 
 SEED = 20250
 RANDOM_SLABS = 8
@@ -85,9 +85,9 @@ def check_embedding() -> None:
             [source.getrandbits(BLOCK_ROW_BITS) for _ in range(BLOCK_ROWS)] for _ in range(COLUMNS)
         ]
         for column, block in enumerate(blocks):
-            embed_block(after, column, block)
+            embed_rows(after, column, block)
         for column, block in enumerate(blocks):
-            require_equal(read_block(after, column), block, f"block of column {column}")
+            require_equal(read_rows(after, column), block, f"block of column {column}")
         for old_row, new_row in zip(before, after, strict=True):
             require_equal(new_row[1::2], old_row[1::2], "luma words")
             require_equal(
