@@ -1,11 +1,13 @@
-"""Checks of the reference itself: worked values, and laws on random slabs."""
+"""Checks of the reference itself: worked values, and laws on random data."""
 
 from __future__ import annotations
 
+import binascii
 import random
 from collections.abc import Callable
 
 from carry import PICTURE_BYTES, carry, split_stripes
+from check_register import check_of
 from raster import (
     COLUMNS,
     ROW_WORDS,
@@ -97,6 +99,31 @@ def check_embedding() -> None:
             )
 
 
+def reverse_bits(value: int, width: int) -> int:
+    """Return the number whose bits, `width` of them, are in reverse order."""
+    return int(f"{value:0{width}b}"[::-1], 2)
+
+
+def check_register_values() -> None:
+    """The worked values of the check."""
+    require_equal(check_of(b"123456789"), 0x0376E6E7, "check of 123456789")
+    require_equal(check_of(b""), 0xFFFFFFFF, "check of no bytes")
+
+
+def check_register_laws() -> None:
+    """The check is the library's CRC-32 with bits reversed and ends inverted.
+
+    A message followed by its check leaves 0 in the register.
+    """
+    source = random.Random(SEED)
+    for length in [*range(41), 536]:
+        message = source.randbytes(length)
+        check = check_of(message)
+        mirrored = binascii.crc32(bytes(reverse_bits(byte, 8) for byte in message))
+        require_equal(check, reverse_bits(mirrored ^ 0xFFFFFFFF, 32), f"check of {length} bytes")
+        require_equal(check_of(message + check.to_bytes(4, "big")), 0, "check of the whole")
+
+
 def check_carry_lengths() -> None:
     """Missing bytes count as 0, bytes after the third slab are ignored."""
     source = random.Random(SEED)
@@ -113,5 +140,7 @@ SELF_CHECKS: list[tuple[str, Callable[[], None]]] = [
     ("packing, random slabs", check_packing_round_trip),
     ("scrambling, worked values", check_scrambling_values),
     ("embedding, random slabs", check_embedding),
+    ("check, worked values", check_register_values),
+    ("check, random messages", check_register_laws),
     ("carry, input lengths", check_carry_lengths),
 ]
