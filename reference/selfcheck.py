@@ -3,9 +3,28 @@
 from __future__ import annotations
 
 import binascii
+import itertools
 import random
 from collections.abc import Callable
+from typing import TypeVar
 
+from block import (
+    EXCLUDED,
+    FIELDS,
+    FIXED,
+    LAYOUT,
+    RECORD,
+    WIDTHS,
+    Block,
+    Refusal,
+    Refused,
+    contradicts,
+    decode_block,
+    encode_block,
+    fill_rows,
+    fitting,
+    mend_check,
+)
 from carry import PICTURE_BYTES, carry, split_stripes
 from check_register import check_of
 from raster import (
@@ -24,6 +43,9 @@ from scrambling import BLOCK_ROW_BITS, BLOCK_ROWS, descramble, embed_rows, read_
 
 SEED = 20250
 RANDOM_SLABS = 8
+RANDOM_BLOCKS = 200
+
+Given = TypeVar("Given")
 
 
 class SelfCheckFailure(Exception):
@@ -124,6 +146,99 @@ def check_register_laws() -> None:
         require_equal(check_of(message + check.to_bytes(4, "big")), 0, "check of the whole")
 
 
+def zero_block() -> Block:
+    """Return the block whose fields are all 0."""
+    return dict.fromkeys(FIELDS, 0)
+
+
+def random_block(source: random.Random) -> Block:
+    """Return a block that is encoded and decoded, of values that fit."""
+    while True:
+        block = {field: fitting(field)[source.getrandbits(WIDTHS[field])] for field in FIELDS}
+        if block["reference"] <= 65520 and not contradicts(block):
+            return block
+
+
+def outcome(act: Callable[[Given], object], given: Given) -> object:
+    """Return what an act makes of what it is given, or why it refuses it."""
+    try:
+        return act(given)
+    except Refused as refused:
+        return refused.refusal
+
+
+def check_layout() -> None:
+    """Every row is full, and every bit of a field lies in one place."""
+    require_equal([sum(part.width for part in parts) for parts in LAYOUT], [16] * 16, "row widths")
+    places = [
+        (part.field, bit)
+        for parts in LAYOUT
+        for part in parts
+        for bit in range(part.low, part.high + 1)
+    ]
+    wanted = [(field, bit) for field in WIDTHS for bit in range(WIDTHS[field])]
+    require_equal(
+        sorted(place for place in places if place[0] != "reserved"),
+        sorted(place for place in wanted if place[0] != "reserved"),
+        "places of the bits",
+    )
+    require_equal(sum(field == "reserved" for field, _ in places), 22, "reserved bits")
+    require_equal((len(FIELDS), len(RECORD)), (30, 23), "fields of a block and of its record")
+
+
+def check_block_values() -> None:
+    """The worked values of rows, and the edges of what fits."""
+    flags = {"fr_fl_srib": 1, "top_field_first": 1, "mb_intra": 1}
+    require_equal(encode_block(zero_block() | flags)[0], 0xFE02, "row 0")
+    vector = {"mv000": -1, "motion_type": 2}
+    require_equal(encode_block(zero_block() | vector)[4], 0xFFFC, "row 4")
+    for field, value, fits in [
+        ("mv000", -4097, False),
+        ("mv000", -4096, True),
+        ("mv000", 4095, True),
+        ("mv000", 4096, False),
+        ("mv001", 255, True),
+        ("mv001", 256, False),
+    ]:
+        block = zero_block() | {field: value}
+        got = outcome(lambda block: decode_block(encode_block(block)), block)
+        require_equal(got, block if fits else Refusal.WIDTH, f"{field} of {value}")
+
+
+def check_block_flags() -> None:
+    """Forty of the settings of the flags that exclude each other are taken, by both ways."""
+    flags = sorted({*EXCLUDED, *(other for others in EXCLUDED.values() for other in others)})
+    require_equal(len(flags), 7, "flags that exclude each other")
+    taken = 0
+    for setting in itertools.product((0, 1), repeat=len(flags)):
+        block = zero_block() | dict(zip(flags, setting, strict=True))
+        encoded = outcome(encode_block, block)
+        rows = mend_check(fill_rows({**block, **FIXED}))
+        decoded = outcome(decode_block, rows)
+        refused = encoded == Refusal.FLAGS
+        require_equal(encoded, Refusal.FLAGS if refused else rows, f"encoding of {setting}")
+        require_equal(decoded, Refusal.FLAGS if refused else block, f"decoding of {setting}")
+        taken += not refused
+    require_equal(taken, 40, "settings that are taken")
+
+
+def check_block_round_trip() -> None:
+    """Every block decodes as it was, and one with a bit or a burst wrong not at all."""
+    source = random.Random(SEED)
+    for _ in range(RANDOM_BLOCKS):
+        block = random_block(source)
+        rows = encode_block(block)
+        require_equal(decode_block(rows), block, "block encoded and decoded")
+        whole = int("".join(f"{row:016b}" for row in rows), 2)
+        burst = (source.getrandbits(32) | 1) << source.randrange(256 - 31)
+        for wrong in [1 << source.randrange(256), burst]:
+            bits = f"{whole ^ wrong:0256b}"
+            damaged = [int(bits[start : start + 16], 2) for start in range(0, 256, 16)]
+            got = outcome(decode_block, damaged)
+            wanted = Refusal.SYNC if wrong >> 251 else Refusal.CHECK
+            require_equal(got, wanted, f"block with {wrong:#x} wrong")
+
+
 def check_carry_lengths() -> None:
     """Missing bytes count as 0, bytes after the third slab are ignored."""
     source = random.Random(SEED)
@@ -142,5 +257,9 @@ SELF_CHECKS: list[tuple[str, Callable[[], None]]] = [
     ("embedding, random slabs", check_embedding),
     ("check, worked values", check_register_values),
     ("check, random messages", check_register_laws),
+    ("blocks, layout", check_layout),
+    ("blocks, worked values", check_block_values),
+    ("blocks, flags", check_block_flags),
+    ("blocks, random blocks", check_block_round_trip),
     ("carry, input lengths", check_carry_lengths),
 ]
