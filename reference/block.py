@@ -114,6 +114,11 @@ class Refused(Exception):
         self.refusal = refusal
 
 
+def zero_block() -> Block:
+    """Return the block whose fields are all 0."""
+    return dict.fromkeys(FIELDS, 0)
+
+
 def fitting(field: str) -> range:
     """Return the values that fit the width of a field."""
     limit = 1 << WIDTHS[field]

@@ -24,8 +24,9 @@ from block import (
     fill_rows,
     fitting,
     mend_check,
+    zero_block,
 )
-from carry import PICTURE_BYTES, carry, split_stripes
+from carry import PICTURE_BYTES, STRIPES, carry, known_block, split_stripes
 from check_register import check_of
 from raster import (
     COLUMNS,
@@ -146,11 +147,6 @@ def check_register_laws() -> None:
         require_equal(check_of(message + check.to_bytes(4, "big")), 0, "check of the whole")
 
 
-def zero_block() -> Block:
-    """Return the block whose fields are all 0."""
-    return dict.fromkeys(FIELDS, 0)
-
-
 def random_block(source: random.Random) -> Block:
     """Return a block that is encoded and decoded, of values that fit."""
     while True:
@@ -239,6 +235,17 @@ def check_block_round_trip() -> None:
             require_equal(got, wanted, f"block with {wrong:#x} wrong")
 
 
+def check_carry_blocks() -> None:
+    """The first block and the last, and that the others too are encoded."""
+    first = {"fr_fl_srib": 1, "mv000": -67}
+    require_equal(known_block(0), zero_block() | first, "first block")
+    last = {"reference": 134, "element": 3507073702, "mv000": 67}
+    require_equal(known_block(134), zero_block() | {"fr_fl_srib": 1} | last, "last block")
+    for position in range(STRIPES * COLUMNS):
+        rows = encode_block(known_block(position))
+        require_equal(decode_block(rows), known_block(position), f"block {position}")
+
+
 def check_carry_lengths() -> None:
     """Missing bytes count as 0, bytes after the third slab are ignored."""
     source = random.Random(SEED)
@@ -261,5 +268,6 @@ SELF_CHECKS: list[tuple[str, Callable[[], None]]] = [
     ("blocks, worked values", check_block_values),
     ("blocks, flags", check_block_flags),
     ("blocks, random blocks", check_block_round_trip),
+    ("carry, blocks", check_carry_blocks),
     ("carry, input lengths", check_carry_lengths),
 ]
