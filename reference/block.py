@@ -94,6 +94,12 @@ EXCLUDED: Mapping[str, tuple[str, ...]] = {
 }
 """The flags that may not be 1 with a flag."""
 
+LINKED_FLAGS = tuple(
+    field
+    for field in FIELDS
+    if field in EXCLUDED or any(field in others for others in EXCLUDED.values())
+)
+
 
 class Refusal(IntEnum):
     """Why a block or its rows are refused."""

@@ -9,10 +9,10 @@ from collections.abc import Callable
 from typing import TypeVar
 
 from block import (
-    EXCLUDED,
     FIELDS,
     FIXED,
     LAYOUT,
+    LINKED_FLAGS,
     RECORD,
     WIDTHS,
     Block,
@@ -41,6 +41,8 @@ from raster import (
     unpack_words,
 )
 from scrambling import BLOCK_ROW_BITS, BLOCK_ROWS, descramble, embed_rows, read_rows, scramble
+from vector_cases import KINDS, make_cases
+from vectors import NUMBERS, answer
 
 SEED = 20250
 RANDOM_SLABS = 8
@@ -203,11 +205,10 @@ def check_block_values() -> None:
 
 def check_block_flags() -> None:
     """Forty of the settings of the flags that exclude each other are taken, by both ways."""
-    flags = sorted({*EXCLUDED, *(other for others in EXCLUDED.values() for other in others)})
-    require_equal(len(flags), 7, "flags that exclude each other")
+    require_equal(len(LINKED_FLAGS), 7, "flags that exclude each other")
     taken = 0
-    for setting in itertools.product((0, 1), repeat=len(flags)):
-        block = zero_block() | dict(zip(flags, setting, strict=True))
+    for setting in itertools.product((0, 1), repeat=len(LINKED_FLAGS)):
+        block = zero_block() | dict(zip(LINKED_FLAGS, setting, strict=True))
         encoded = outcome(encode_block, block)
         rows = mend_check(fill_rows({**block, **FIXED}))
         decoded = outcome(decode_block, rows)
@@ -257,6 +258,31 @@ def check_carry_lengths() -> None:
     require_equal(split_stripes(b""), [[[0] * ROW_WORDS] * ROWS] * 3, "stripes of no input")
 
 
+def head(case: str) -> str:
+    """Return what sort of answer a case has."""
+    text = answer(case)
+    if case.startswith("check"):
+        return "check"
+    return text if text.startswith("refused") else text.split(" ")[0]
+
+
+def check_vector_words() -> None:
+    """A line gives every field of a block; worked answers."""
+    require_equal(sorted(NUMBERS), sorted(FIELDS), "numbers of a line")
+    require_equal(answer("check"), "FFFFFFFF", "answer for no bytes")
+    require_equal(answer("check 313233343536373839"), "0376E6E7", "answer for 123456789")
+    numbers = " ".join("0" for _ in NUMBERS)
+    rows = " ".join(["F800", *["0000"] * 13, "BE42", "6EB6"])
+    require_equal(answer(f"encode {numbers}"), f"rows {rows}", "answer for zeros")
+    require_equal(answer(f"decode {rows}"), f"block {numbers}", "answer for their rows")
+
+
+def check_vector_answers() -> None:
+    """The cases of every kind have the answers that the kind is there for."""
+    for kind, cases in zip(KINDS, make_cases().values(), strict=True):
+        require_equal({head(case) for case in cases}, kind.answers, kind.name)
+
+
 SELF_CHECKS: list[tuple[str, Callable[[], None]]] = [
     ("packing, worked values", check_packing_values),
     ("packing, random slabs", check_packing_round_trip),
@@ -270,4 +296,6 @@ SELF_CHECKS: list[tuple[str, Callable[[], None]]] = [
     ("blocks, random blocks", check_block_round_trip),
     ("carry, blocks", check_carry_blocks),
     ("carry, input lengths", check_carry_lengths),
+    ("vectors, worked values", check_vector_words),
+    ("vectors, answers", check_vector_answers),
 ]
