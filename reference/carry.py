@@ -13,12 +13,14 @@ import sys
 from pathlib import Path
 from typing import NamedTuple
 
+from block import WIDTHS, Block, Refused, decode_block, encode_block, zero_block
 from raster import COLUMNS, SLAB_BYTES, Slab, moved_words, pack_slab, unpack_slab
-from scrambling import BLOCK_ROW_BITS, BLOCK_ROWS, Block, embed_block, read_block
+from scrambling import embed_rows, read_rows
 
 STRIPES = 3
 PICTURE_BYTES = STRIPES * SLAB_BYTES
-MULTIPLIER = 40503
+MULTIPLIER = 2654435761
+MIDDLE = 67
 
 
 class Carried(NamedTuple):
@@ -30,10 +32,21 @@ class Carried(NamedTuple):
 
 def known_block(position: int) -> Block:
     """Return the block embedded at a position, 45 x stripe + column."""
-    return [
-        (BLOCK_ROWS * position + row) * MULTIPLIER % (1 << BLOCK_ROW_BITS)
-        for row in range(BLOCK_ROWS)
-    ]
+    return zero_block() | {
+        "fr_fl_srib": 1,
+        "reference": position,
+        "element": position * MULTIPLIER % (1 << WIDTHS["element"]),
+        "mb_intra": position % 2,
+        "mv000": position - MIDDLE,
+    }
+
+
+def reads_back(slab: Slab, column: int, block: Block) -> bool:
+    """Tell whether a block is what the macroblock at a column carries."""
+    try:
+        return decode_block(read_rows(slab, column)) == block
+    except Refused:
+        return False
 
 
 def split_stripes(data: bytes) -> list[Slab]:
@@ -50,11 +63,11 @@ def carry_stripe(stripe: int, before: Slab) -> Carried:
     blocks = [known_block(COLUMNS * stripe + column) for column in range(COLUMNS)]
     after = [row.copy() for row in before]
     for column, block in enumerate(blocks):
-        embed_block(after, column, block)
+        embed_rows(after, column, encode_block(block))
     # Read from the packed bytes, which are what a receiver has.
     packed = pack_slab(after)
     received = unpack_slab(packed)
-    read = sum(read_block(received, column) == block for column, block in enumerate(blocks))
+    read = sum(reads_back(received, column, block) for column, block in enumerate(blocks))
     text = f"stripe {stripe} moved {moved_words(before, after)} read {read}\n"
     return Carried(text, packed)
 

@@ -1,7 +1,7 @@
-"""Hold the stored output of every program to what the reference computes.
+"""Hold the stored files of every program to what the reference computes.
 
     python3 reference/check.py            compare: exit 1 and a diff if any differs
-    python3 reference/check.py --write    write the stored output files
+    python3 reference/check.py --write    write the stored files
 
 To add a case, add a line to CASES.
 """
@@ -17,13 +17,15 @@ from typing import NamedTuple
 
 from carry import PICTURE_BYTES, carry
 from selfcheck import SELF_CHECKS, SelfCheckFailure, require_equal
+from vector_cases import cases_text
+from vectors import answer_all
 
 ROOT = Path(__file__).resolve().parent.parent
 CRATES = ROOT / "crates"
 
 
 class Case(NamedTuple):
-    """A stored output file and the function that regenerates its text."""
+    """A stored file and the function that regenerates its text."""
 
     name: str
     regenerate: Callable[[], str]
@@ -37,8 +39,15 @@ def carry_of_sample() -> str:
     return carry(data).text
 
 
+def vectors_of_cases() -> str:
+    """Return what `vectors` prints for its cases."""
+    return answer_all(cases_text())
+
+
 CASES: list[Case] = [
     Case("carry", carry_of_sample, CRATES / "carry" / "stdout"),
+    Case("vectors' cases", cases_text, CRATES / "vectors" / "stdin"),
+    Case("vectors", vectors_of_cases, CRATES / "vectors" / "stdout"),
 ]
 
 
@@ -105,20 +114,20 @@ def self_checks_hold() -> bool:
 
 
 def main() -> int:
-    parser = argparse.ArgumentParser(description="Check the stored outputs of the programs.")
-    parser.add_argument("--write", action="store_true", help="write the stored outputs instead")
+    parser = argparse.ArgumentParser(description="Check the stored files of the programs.")
+    parser.add_argument("--write", action="store_true", help="write the stored files instead")
     act = write if parser.parse_args().write else compare
 
     if not self_checks_hold():
         return 1
     failed = [case.name for case in CASES if not attempt(act, case)]
     if failed:
-        print(f"reference: FAILED {len(failed)} of {len(CASES)} outputs: {', '.join(failed)}")
+        print(f"reference: FAILED {len(failed)} of {len(CASES)} files: {', '.join(failed)}")
         return 1
     done = "written" if act is write else "as stored"
     print(
         f"reference: {len(SELF_CHECKS)} self-checks hold; "
-        f"{len(CASES)} of {len(CASES)} outputs {done}: {', '.join(case.name for case in CASES)}"
+        f"{len(CASES)} of {len(CASES)} files {done}: {', '.join(case.name for case in CASES)}"
     )
     return 0
 

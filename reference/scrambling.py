@@ -15,7 +15,7 @@ from raster import COLUMNS, MACROBLOCK_WORDS, ROWS, Slab
 BLOCK_ROWS = ROWS
 BLOCK_ROW_BITS = 16
 
-Block = list[int]
+Rows = list[int]
 """The rows of a block, each a 16-bit number."""
 
 
@@ -34,29 +34,29 @@ def descramble(chroma: int, luma: int) -> int:
     return ((chroma & 1) + parity(chroma) + parity(luma)) % 2
 
 
-def embed_block(slab: Slab, column: int, block: Sequence[int]) -> None:
-    """Embed a block, in place, in the macroblock at a column of a slab."""
+def embed_rows(slab: Slab, column: int, rows: Sequence[int]) -> None:
+    """Embed the rows of a block, in place, in the macroblock at a column of a slab."""
     _require_column(column)
-    if len(block) != BLOCK_ROWS or any(not 0 <= data < 1 << BLOCK_ROW_BITS for data in block):
+    if len(rows) != BLOCK_ROWS or any(not 0 <= data < 1 << BLOCK_ROW_BITS for data in rows):
         raise ValueError(f"a block is {BLOCK_ROWS} numbers of {BLOCK_ROW_BITS} bits")
-    for row, data in zip(slab, block, strict=True):
+    for row, data in zip(slab, rows, strict=True):
         for k in range(BLOCK_ROW_BITS):
             at = MACROBLOCK_WORDS * column + 2 * k
             bit = data >> BLOCK_ROW_BITS - 1 - k & 1
             row[at] = scramble(row[at], row[at + 1], bit)
 
 
-def read_block(slab: Slab, column: int) -> Block:
-    """Read the block carried in the macroblock at a column of a slab."""
+def read_rows(slab: Slab, column: int) -> Rows:
+    """Read the rows of the block carried in the macroblock at a column of a slab."""
     _require_column(column)
-    block: Block = []
+    rows: Rows = []
     for row in slab:
         data = 0
         for k in range(BLOCK_ROW_BITS):
             at = MACROBLOCK_WORDS * column + 2 * k
             data = data << 1 | descramble(row[at], row[at + 1])
-        block.append(data)
-    return block
+        rows.append(data)
+    return rows
 
 
 def _require_column(column: int) -> None:
