@@ -1,0 +1,134 @@
+// The words of a case as numbers.
+use record::Block;
+use record::PictureFlags;
+use record::Record;
+use std::alloc::Global;
+use std::error::AnyError;
+
+// Takes the words of a case one after the other.
+#[derive(Drop)]
+pub struct Words<'a, 'b> {
+    words: &'a [&'b str],
+    at: usize,
+}
+
+impl<'a, 'b> Words<'a, 'b> {
+    // The words after the first.
+    pub fn new(words: &'a [&'b str]) -> Words<'a, 'b> {
+        Words { words, at: 1 }
+    }
+
+    fn next(&mut self) -> Result<&'b str, AnyError> {
+        let word = self.words.get(self.at).copied().ok_or("a case of too few words")?;
+        self.at = self.at.saturating_add(1);
+        Ok(word)
+    }
+
+    fn flag(&mut self) -> Result<bool, AnyError> {
+        Ok(self.next()?.parse::<u8>()? == 1)
+    }
+
+    fn byte(&mut self) -> Result<u8, AnyError> {
+        Ok(self.next()?.parse::<u8>()?)
+    }
+
+    fn vector(&mut self) -> Result<i16, AnyError> {
+        Ok(self.next()?.parse::<i16>()?)
+    }
+
+    fn row(&mut self) -> Result<u16, AnyError> {
+        Ok(u16::from_str_radix(self.next()?, 16)?)
+    }
+
+    fn flags(&mut self) -> Result<[bool; 6], AnyError> {
+        Ok([self.flag()?, self.flag()?, self.flag()?, self.flag()?, self.flag()?, self.flag()?])
+    }
+
+    fn vectors(&mut self) -> Result<[i16; 4], AnyError> {
+        Ok([self.vector()?, self.vector()?, self.vector()?, self.vector()?])
+    }
+
+    fn picture(&mut self) -> Result<PictureFlags, AnyError> {
+        Ok(PictureFlags {
+            fr_fl_srib: self.flag()?,
+            top_field_first: self.flag()?,
+            repeat_first_field: self.flag()?,
+            chroma_422_420: self.flag()?,
+            q_scale_type: self.flag()?,
+        })
+    }
+
+    fn record(&mut self) -> Result<Record, AnyError> {
+        let [mb_quant, mb_mfwd, mb_mbwd, mb_pattern, mb_intra, dct_type] = self.flags()?;
+        let [mv000, mv010, mv100, mv110] = self.vectors()?;
+        let [mv001, mv011, mv101, mv111] = self.vectors()?;
+        Ok(Record {
+            mb_quant,
+            mb_mfwd,
+            mb_mbwd,
+            mb_pattern,
+            mb_intra,
+            dct_type,
+            mv000,
+            mv001,
+            mv010,
+            mv011,
+            mv100,
+            mv101,
+            mv110,
+            mv111,
+            motion_type: self.byte()?,
+            skipped_mb: self.flag()?,
+            num_other_bits: self.byte()?,
+            slice_start_flag: self.flag()?,
+            num_mv_bits: self.byte()?,
+            q_scale_code: self.byte()?,
+            mb_vert_field_sel: self.byte()?,
+            num_coef_bits: self.next()?.parse::<u16>()?,
+            coded_block_pattern: self.byte()?,
+        })
+    }
+
+    pub fn block(&mut self) -> Result<Block, AnyError> {
+        Ok(Block {
+            picture: self.picture()?,
+            reference: self.next()?.parse::<u16>()?,
+            element: self.next()?.parse::<u32>()?,
+            record: self.record()?,
+        })
+    }
+
+    pub fn rows(&mut self) -> Result<[u16; 16], AnyError> {
+        let mut rows = [0; 16];
+        for i in 0..16 {
+            rows[i] = self.row()?;
+        }
+        Ok(rows)
+    }
+
+    // The bytes that pairs of hex digits spell; none where no word is left.
+    pub fn bytes(&mut self, heap: Global) -> Result<Vec<u8>, AnyError> {
+        let mut bytes = Vec::new(heap);
+        let text = self.words.get(self.at).copied().unwrap_or("");
+        let mut high = None;
+        for digit in text.bytes() {
+            let value = nibble(digit)?;
+            match high {
+                None => high = Some(value),
+                Some(above) => {
+                    bytes.push((above << 4) | value)?;
+                    high = None;
+                }
+            }
+        }
+        Ok(bytes)
+    }
+}
+
+fn nibble(digit: u8) -> Result<u8, AnyError> {
+    match digit {
+        b'0'..=b'9' => Ok(digit - b'0'),
+        b'A'..=b'F' => Ok(digit - b'A' + 10),
+        _ => Err("a digit that is not hex".into()),
+    }
+}
