@@ -52,7 +52,7 @@ module _ (rows : List ℕ) where
         check = fitting-decides rows .0 (not-false _ (c .0));
         reserved = not-false _ (r .0);
         reference = let h = n .0 in grind (arith, tells);
-        rules = not-false _ (k .0)
+        rules = not-false _ (k .0);
       }
 
   pub accepted-if-formed : WellFormed rows → decoded rows ≡ Ok (blockOf rows)
@@ -97,12 +97,12 @@ module _ (b : Block) (f : Fitting b) (k : keepsRules (b .«record») ≡ true) (
       let c = checked-fits (dataRows b) (record { long = n; narrow = λ i hi. all-getD (λ row. row < 2 ^ 16) (dataRows b) i 0 (omega arith) (u .0 .narrow) }) in
       let is : blockOf (rowsOf b) ≡ b = ap blockIn t ∙ u .1 in
       accepted-if-formed (rowsOf b) (record {
-          sync = ap synced t ∙ u .0 .sync;
-          check = c .1;
-          reserved = ap clear t ∙ u .0 .reserved;
-          reference = subst (λ x. x .reference ≤ 65520) (sym is) h;
-          rules = ap (λ x. keepsRules (x .«record»)) is ∙ k
-        })
+        sync = ap synced t ∙ u .0 .sync;
+        check = c .1;
+        reserved = ap clear t ∙ u .0 .reserved;
+        reference = subst (λ x. x .reference ≤ 65520) (sym is) h;
+        rules = ap (λ x. keepsRules (x .«record»)) is ∙ k;
+      })
       ∙ ap Ok is
 
 -- the burst law, and that no other rows spell the block
@@ -110,8 +110,8 @@ module _ (rows : List ℕ) (k : Rows 16 rows) (w : WellFormed rows) where
   pub none-near : NoneNear rows
   none-near others n ko hn a d =
       elim (cases-bool (isOk (decoded others))) [
-        inl t ↦ absurd (burst-never-passes rows k (w .check) others n ko hn a d (accepts others .0 t .check))
-      | inr f ↦ f
+        | inl t ↦ absurd (burst-never-passes rows k (w .check) others n ko hn a d (accepts others .0 t .check))
+        | inr f ↦ f
       ]
 
   pub only-these : OnlyThese rows (blockOf rows)

@@ -30,11 +30,11 @@ none-laden stripe words at = record { reads = λ c h. absurd (omega arith); uppe
 -- column n is written next
 pub one-laden : (stripe words n : ℕ) (at₀ at₁ at₂ : ℕ → ℕ → ℕ) → 32 * n + 32 ≤ words → Laden stripe words n at₀ at₁ → Written stripe n words at₁ at₂ → Laden stripe words (n + 1) at₀ at₂
 one-laden stripe words n at₀ at₁ at₂ wide before now = record {
-    reads = λ c h. elim (cases-eq c n) [ inl e ↦ subst (Reads at₂ stripe) (sym e) (now .reads) | inr d ↦ ap decoded (now .others c d (omega arith)) ∙ before .reads c (omega arith) ];
-    upper = λ i j hi hj. now .only i j hi hj .0 ∙ before .upper i j hi hj;
-    luma = λ i j hi hj h. now .only i j hi hj .1 (luma-stays n i j h) ∙ before .luma i j hi hj h;
-    rest = λ i j hi hj h. now .only i j hi hj .1 (rest-stays n i j h) ∙ before .rest i j hi hj (omega arith)
-  }
+  reads = λ c h. elim (cases-eq c n) [ inl e ↦ subst (Reads at₂ stripe) (sym e) (now .reads) | inr d ↦ ap decoded (now .others c d (omega arith)) ∙ before .reads c (omega arith) ];
+  upper = λ i j hi hj. now .only i j hi hj .0 ∙ before .upper i j hi hj;
+  luma = λ i j hi hj h. now .only i j hi hj .1 (luma-stays n i j h) ∙ before .luma i j hi hj h;
+  rest = λ i j hi hj h. now .only i j hi hj .1 (rest-stays n i j h) ∙ before .rest i j hi hj (omega arith);
+}
 
 -- where all have the property, all are counted
 pub count-all : {P : ℕ → Type 0} {n r : ℕ} → Counted P n r → ((k : ℕ) → k < n → P k) → r ≡ n

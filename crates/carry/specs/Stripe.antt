@@ -1,6 +1,5 @@
 -- A stripe once its macroblocks carry their blocks.
 use Prim.Native.Nat.{ℕ, _+_, _*_, _/_, _%_, _<_, _≤_}
-
 use mathlib.Core.Bool.{false}
 use mathlib.Core.Path.{_≡_}
 use Rattle.std.specs.declared.result.Result.the-variants.{Ok}

@@ -76,7 +76,11 @@ fn reads_back<R: Raster>(slab: &R, stripe: usize, column: usize) -> bool
 }
 
 // Carries the blocks through one packed slab: `after` is written and read, and compared with `before`.
-pub(crate) fn carry_stripe(stripe: usize, before: &mut [u8], after: &mut [u8]) -> Result<StripeLine, Fault>
+pub(crate) fn carry_stripe(
+    stripe: usize,
+    before: &mut [u8],
+    after: &mut [u8],
+) -> Result<StripeLine, Fault>
     requires { ⌜ stripe < 3 ⌝ ∗ ⌜ length (now before) ≡ 28800 ⌝ ∗ ⌜ length (now after) ≡ 28800 ⌝ }
     ensures answer { λ r. ⌜ r ≡ Ok (record { stripe = stripe; moved = differing (packedAt (now (before .entry)) 1440) (packedAt (now (after .exit)) 1440) 16 1440; read = 45 }) ⌝ }
     ensures before { λ _. ⌜ now (before .exit) ≡ now (before .entry) ⌝ }

@@ -99,22 +99,48 @@ found-small rows CodedBlockPattern = omega arith
 -- joined rows are rows of 16 bits
 pub rows-narrow : (values : Name → ℕ) → ((n : Name) → values n < 2 ^ widthOf n) → All (λ row. row < 2 ^ 16) (rowsWith values)
 rows-narrow values h = (
-      omega (arith, h Sync, h FrFlSrib, h TopFieldFirst, h RepeatFirstField, h Chroma422420, h QScaleType, h MbQuant, h MbMfwd, h MbMbwd, h MbPattern, h MbIntra, h DctType), (
-      omega (arith, h Reference), (
-      omega (arith, h Element), (
-      omega (arith, h Element), (
-      omega (arith, h Mv000, h MotionType, h SkippedMb), (
-      omega (arith, h Mv001, h NumOtherBits), (
-      omega (arith, h Mv010, h SliceStartFlag), (
-      omega (arith, h Mv011, h NumMvBits), (
-      omega (arith, h Mv100), (
-      omega (arith, h Mv101, h QScaleCode, h NumMvBits), (
-      omega (arith, h Mv110), (
-      omega (arith, h Mv111, h MbVertFieldSel), (
-      omega (arith, h NumCoefBits), (
-      omega (arith, h CodedBlockPattern),
-      tt
-    ))))))))))))))
+  omega (arith, h Sync, h FrFlSrib, h TopFieldFirst, h RepeatFirstField, h Chroma422420, h QScaleType, h MbQuant, h MbMfwd, h MbMbwd, h MbPattern, h MbIntra, h DctType),
+  (
+    omega (arith, h Reference),
+    (
+      omega (arith, h Element),
+      (
+        omega (arith, h Element),
+        (
+          omega (arith, h Mv000, h MotionType, h SkippedMb),
+          (
+            omega (arith, h Mv001, h NumOtherBits),
+            (
+              omega (arith, h Mv010, h SliceStartFlag),
+              (
+                omega (arith, h Mv011, h NumMvBits),
+                (
+                  omega (arith, h Mv100),
+                  (
+                    omega (arith, h Mv101, h QScaleCode, h NumMvBits),
+                    (
+                      omega (arith, h Mv110),
+                      (
+                        omega (arith, h Mv111, h MbVertFieldSel),
+                        (
+                          omega (arith, h NumCoefBits),
+                          (
+                            omega (arith, h CodedBlockPattern),
+                            tt,
+                          ),
+                        ),
+                      ),
+                    ),
+                  ),
+                ),
+              ),
+            ),
+          ),
+        ),
+      ),
+    ),
+  ),
+)
 
 -- the reserved bits, row by row
 abbrev pub Cleared : List ℕ → Type 0

@@ -20,7 +20,7 @@ decoding-undoes b h =
         count = refl;
         narrow = rows-narrow (valuesOf b) small;
         sync = eq-eqb _ _ (back (valuesOf b) small Sync);
-        reserved = rows-clear (valuesOf b)
+        reserved = rows-clear (valuesOf b);
       },
       ap blockWith (fun-ext (back (valuesOf b) small)) ∙ same-block b (within (b .«record») (h .widths)),
     )
@@ -28,13 +28,13 @@ decoding-undoes b h =
 pub encoding-undoes : EncodingUndoes
 unfolding dataRows blockIn synced
 encoding-undoes rows h = (
-    record {
-      widths = passes _ (within-with (found rows) (found-small rows));
-      reference = found-small rows Reference;
-      element = found-small rows Element
-    },
-    ap rowsWith (fun-ext (same-values (found rows) (found-small rows) (eqb-true _ _ (h .sync)))) ∙ rejoined rows (h .count) (h .narrow) (h .reserved),
-  )
+  record {
+    widths = passes _ (within-with (found rows) (found-small rows));
+    reference = found-small rows Reference;
+    element = found-small rows Element;
+  },
+  ap rowsWith (fun-ext (same-values (found rows) (found-small rows) (eqb-true _ _ (h .sync)))) ∙ rejoined rows (h .count) (h .narrow) (h .reserved),
+)
 
 pub spelt-once : SpeltOnce
 spelt-once rows others h k same = sym (encoding-undoes rows h .1) ∙ (ap dataRows same ∙ encoding-undoes others k .1)

@@ -42,4 +42,4 @@ module _ (w : ℕ) (halves : 2 ^ w ≡ 2 * 2 ^ (w - 1)) where
   pub signed-fits : (x : ℕ) → x < 2 ^ w → fitsSigned w (signed w x) ≡ true
   signed-fits x h =
       cond-both (ltb x (2 ^ (w - 1))) (pos x) (negsuc (2 ^ w - suc x)) (λ z. fitsSigned w z ≡ true) (λ e. e)
-        (λ e. lt-ltb (2 ^ w - suc x) (2 ^ (w - 1)) (omega (arith, ltb-false x (2 ^ (w - 1)) e)))
+      (λ e. lt-ltb (2 ^ w - suc x) (2 ^ (w - 1)) (omega (arith, ltb-false x (2 ^ (w - 1)) e)))

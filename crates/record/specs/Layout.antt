@@ -54,7 +54,7 @@ pub data Part : Type 0 where
 abbrev pub layout : List (List Part)
 layout =
     (field Sync 5 ∷ field FrFlSrib 1 ∷ field TopFieldFirst 1 ∷ field RepeatFirstField 1 ∷ field Chroma422420 1 ∷ field QScaleType 1
-      ∷ field MbQuant 1 ∷ field MbMfwd 1 ∷ field MbMbwd 1 ∷ field MbPattern 1 ∷ field MbIntra 1 ∷ field DctType 1 ∷ [])
+    ∷ field MbQuant 1 ∷ field MbMfwd 1 ∷ field MbMbwd 1 ∷ field MbPattern 1 ∷ field MbIntra 1 ∷ field DctType 1 ∷ [])
     ∷ (field Reference 16 ∷ [])
     ∷ (bits Element 31 16 ∷ [])
     ∷ (bits Element 15 0 ∷ [])
@@ -186,50 +186,50 @@ valuesOf b CodedBlockPattern = b .«record» .«coded_block_pattern»
 -- the block whose fields have these values
 abbrev pub flagsWith : (Name → ℕ) → PictureFlags
 flagsWith values = record {
-    «fr_fl_srib» = isOne (values FrFlSrib);
-    «top_field_first» = isOne (values TopFieldFirst);
-    «repeat_first_field» = isOne (values RepeatFirstField);
-    «chroma_422_420» = isOne (values Chroma422420);
-    «q_scale_type» = isOne (values QScaleType)
-  }
+  «fr_fl_srib» = isOne (values FrFlSrib);
+  «top_field_first» = isOne (values TopFieldFirst);
+  «repeat_first_field» = isOne (values RepeatFirstField);
+  «chroma_422_420» = isOne (values Chroma422420);
+  «q_scale_type» = isOne (values QScaleType);
+}
 
 abbrev vectorWith : (Name → ℕ) → Name → ℤ
 vectorWith values n = signed (widthOf n) (values n)
 
 abbrev pub recordWith : (Name → ℕ) → Record
 recordWith values = record {
-    «mb_quant» = isOne (values MbQuant);
-    «mb_mfwd» = isOne (values MbMfwd);
-    «mb_mbwd» = isOne (values MbMbwd);
-    «mb_pattern» = isOne (values MbPattern);
-    «mb_intra» = isOne (values MbIntra);
-    «dct_type» = isOne (values DctType);
-    mv000 = vectorWith values Mv000;
-    mv001 = vectorWith values Mv001;
-    mv010 = vectorWith values Mv010;
-    mv011 = vectorWith values Mv011;
-    mv100 = vectorWith values Mv100;
-    mv101 = vectorWith values Mv101;
-    mv110 = vectorWith values Mv110;
-    mv111 = vectorWith values Mv111;
-    «motion_type» = values MotionType;
-    «skipped_mb» = isOne (values SkippedMb);
-    «num_other_bits» = values NumOtherBits;
-    «slice_start_flag» = isOne (values SliceStartFlag);
-    «num_mv_bits» = values NumMvBits;
-    «q_scale_code» = values QScaleCode;
-    «mb_vert_field_sel» = values MbVertFieldSel;
-    «num_coef_bits» = values NumCoefBits;
-    «coded_block_pattern» = values CodedBlockPattern
-  }
+  «mb_quant» = isOne (values MbQuant);
+  «mb_mfwd» = isOne (values MbMfwd);
+  «mb_mbwd» = isOne (values MbMbwd);
+  «mb_pattern» = isOne (values MbPattern);
+  «mb_intra» = isOne (values MbIntra);
+  «dct_type» = isOne (values DctType);
+  mv000 = vectorWith values Mv000;
+  mv001 = vectorWith values Mv001;
+  mv010 = vectorWith values Mv010;
+  mv011 = vectorWith values Mv011;
+  mv100 = vectorWith values Mv100;
+  mv101 = vectorWith values Mv101;
+  mv110 = vectorWith values Mv110;
+  mv111 = vectorWith values Mv111;
+  «motion_type» = values MotionType;
+  «skipped_mb» = isOne (values SkippedMb);
+  «num_other_bits» = values NumOtherBits;
+  «slice_start_flag» = isOne (values SliceStartFlag);
+  «num_mv_bits» = values NumMvBits;
+  «q_scale_code» = values QScaleCode;
+  «mb_vert_field_sel» = values MbVertFieldSel;
+  «num_coef_bits» = values NumCoefBits;
+  «coded_block_pattern» = values CodedBlockPattern;
+}
 
 abbrev pub blockWith : (Name → ℕ) → Block
 blockWith values = record {
-    picture = flagsWith values;
-    reference = values Reference;
-    element = values Element;
-    «record» = recordWith values
-  }
+  picture = flagsWith values;
+  reference = values Reference;
+  element = values Element;
+  «record» = recordWith values;
+}
 
 -- the parts of a row joined, of the values of the fields
 abbrev partOf : (Name → ℕ) → Part → ℕ

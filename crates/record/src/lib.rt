@@ -6,7 +6,6 @@ mod record;
 pub use decode::block_of;
 pub use decode::has_sync;
 pub use decode::reserved_clear;
-
 pub use encode::data_rows;
 pub use record::Block;
 pub use record::BlockEq;
@@ -16,5 +15,5 @@ pub use record::PictureFlagsEq;
 pub use record::PictureFlagsPartialEq;
 pub use record::Record;
 pub use record::RecordEq;
-pub use record::check_record;
 pub use record::RecordPartialEq;
+pub use record::check_record;

@@ -36,7 +36,9 @@ pub impl PartialEq<Record> for Record as RecordPartialEq {
     ghost equals = { λ x y r. Decides r (x ≡ y) };
 
     fn eq(&self, other: &Record) -> bool {
-        self.flags() == other.flags() && self.vectors() == other.vectors() && self.numbers() == other.numbers()
+        self.flags() == other.flags()
+            && self.vectors() == other.vectors()
+            && self.numbers() == other.numbers()
     }
 }
 

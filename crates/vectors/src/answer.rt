@@ -92,7 +92,16 @@ fn flags_of<W: fmt::Write>(block: &Block, f: &mut fmt::Formatter<W>) -> fmt::Res
 
 fn vectors_of<W: fmt::Write>(block: &Block, f: &mut fmt::Formatter<W>) -> fmt::Result {
     let r = block.record;
-    for mv in [r.mv000, r.mv010, r.mv100, r.mv110, r.mv001, r.mv011, r.mv101, r.mv111] {
+    for mv in [
+        r.mv000,
+        r.mv010,
+        r.mv100,
+        r.mv110,
+        r.mv001,
+        r.mv011,
+        r.mv101,
+        r.mv111,
+    ] {
         write!(f, " {mv}")?;
     }
     Ok(())

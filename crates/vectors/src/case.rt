@@ -19,7 +19,10 @@ impl<'a, 'b> Words<'a, 'b> {
     }
 
     fn next(&mut self) -> Result<&'b str, AnyError> {
-        let word = self.words.get(self.at).copied().ok_or("a case of too few words")?;
+        let word = self.words
+            .get(self.at)
+            .copied()
+            .ok_or("a case of too few words")?;
         self.at = self.at.saturating_add(1);
         Ok(word)
     }
@@ -41,11 +44,23 @@ impl<'a, 'b> Words<'a, 'b> {
     }
 
     fn flags(&mut self) -> Result<[bool; 6], AnyError> {
-        Ok([self.flag()?, self.flag()?, self.flag()?, self.flag()?, self.flag()?, self.flag()?])
+        Ok([
+            self.flag()?,
+            self.flag()?,
+            self.flag()?,
+            self.flag()?,
+            self.flag()?,
+            self.flag()?,
+        ])
     }
 
     fn vectors(&mut self) -> Result<[i16; 4], AnyError> {
-        Ok([self.vector()?, self.vector()?, self.vector()?, self.vector()?])
+        Ok([
+            self.vector()?,
+            self.vector()?,
+            self.vector()?,
+            self.vector()?,
+        ])
     }
 
     fn picture(&mut self) -> Result<PictureFlags, AnyError> {

@@ -4,10 +4,10 @@ use buffer::PackedRaster;
 use fault::Fault;
 use fault::FaultDebug;
 use fault::FaultPartialEq;
+use layer::Bounds;
 use layer::Field;
 use layer::FieldKind;
 use layer::FieldRaster;
-use layer::Frame;
 use layer::Window;
 use layer::WindowRaster;
 use raster::Extent;
@@ -20,7 +20,7 @@ use std::test::*;
 // The buffer, and the part of it that the window shows: rows 1 to 5 and words 3 to 7, since no row 6 and no word 8 is there.
 const BELOW: Extent = Extent { rows: 6, words: 8 };
 
-const FRAME: Frame = Frame {
+const BOUNDS: Bounds = Bounds {
     top: 1,
     left: 3,
     size: Extent { rows: 9, words: 9 },
@@ -36,13 +36,13 @@ fn set_all<R: Raster>(raster: &mut R, bit: bool) -> Result<(), Fault> {
     Ok(())
 }
 
-// Sets all that the pile shows in memory of zeros, and says what it is refused outside.
-fn set_through(memory: &mut [u8], kind: FieldKind, extent: Extent) -> Result<(), Fail> {
+// Sets all that the pile shows, looks at it through the pile, and says what it is refused outside.
+fn set_through(memory: &mut [u8], kind: FieldKind, extent: Extent, bit: bool) -> Result<(), Fail> {
     let mut packed = PackedBuffer::new(BELOW, memory);
-    let mut pile = Field::new(Window::new(&mut packed, FRAME), kind);
+    let mut pile = Field::new(Window::new(&mut packed, BOUNDS), kind);
     check_eq(pile.extent(), extent)?;
     check_eq(
-        pile.set(extent.rows, 2, true),
+        pile.set(extent.rows, 2, bit),
         Err(Fault::Outside {
             row: extent.rows,
             word: 2,
@@ -55,16 +55,21 @@ fn set_through(memory: &mut [u8], kind: FieldKind, extent: Extent) -> Result<(),
             word: extent.words,
         }),
     )?;
-    set_all(&mut pile, true)?;
-    Ok(())
+    set_all(&mut pile, bit)?;
+    check_eq(pile.look(1, 4)? % 2, u16::from(bit))
 }
 
-// In each row the words from 3 on are 1 if the pile shows the row, and all others are 0.
-fn shown_and_no_other(memory: &mut [u8], shown: [bool; 6]) -> Result<(), Fail> {
+// In each row the words from 3 on are one if the pile shows the row, and all others are the other.
+fn shown_and_no_other(
+    memory: &mut [u8],
+    shown: [bool; 6],
+    one: u16,
+    other: u16,
+) -> Result<(), Fail> {
     let packed = PackedBuffer::new(BELOW, memory);
     for row in 0..6 {
         for place in 0..8 {
-            let word = u16::from(shown[row] && place >= 3);
+            let word = if shown[row] && place >= 3 { one } else { other };
             check_eq(packed.look(row, place)?, word)?;
         }
     }
@@ -74,15 +79,30 @@ fn shown_and_no_other(memory: &mut [u8], shown: [bool; 6]) -> Result<(), Fail> {
 #[test]
 fn top_field_of_a_window() -> Result<(), Fail> {
     let mut memory = [0u8; 60];
-    set_through(&mut memory, FieldKind::Top, Extent { rows: 3, words: 5 })?;
-    shown_and_no_other(&mut memory, [false, true, false, true, false, true])
+    set_through(
+        &mut memory,
+        FieldKind::Top,
+        Extent { rows: 3, words: 5 },
+        true,
+    )?;
+    shown_and_no_other(&mut memory, [false, true, false, true, false, true], 1, 0)
 }
 
 #[test]
 fn bottom_field_of_a_window() -> Result<(), Fail> {
-    let mut memory = [0u8; 60];
-    set_through(&mut memory, FieldKind::Bottom, Extent { rows: 2, words: 5 })?;
-    shown_and_no_other(&mut memory, [false, false, true, false, true, false])
+    let mut memory = [0xffu8; 60];
+    set_through(
+        &mut memory,
+        FieldKind::Bottom,
+        Extent { rows: 2, words: 5 },
+        false,
+    )?;
+    shown_and_no_other(
+        &mut memory,
+        [false, false, true, false, true, false],
+        1022,
+        1023,
+    )
 }
 
 #[test]

@@ -1,11 +1,12 @@
 // Values that anyone can check by hand.
-use column::carried;
-use column::embed;
-use column::scrambled_bit;
 use buffer::PackedBuffer;
 use buffer::PackedRaster;
 use buffer::WordBuffer;
 use buffer::WordRaster;
+use column::carried;
+use column::carried_bit;
+use column::embed;
+use column::scrambled_bit;
 use fault::Fault;
 use fault::FaultDebug;
 use fault::FaultPartialEq;
@@ -23,11 +24,20 @@ fn four_words_in_five_bytes() -> Result<(), Fail> {
     check_eq(packed.look(0, 3)?, 1)
 }
 
+// The chroma word after its bit 0 is set to carry a bit, in a buffer of one row.
+fn carrying(chroma: u16, luma: u16, bit: bool) -> Result<u16, Fault> {
+    let mut memory = [chroma, luma, 0, 0];
+    let mut words = WordBuffer::new(Extent { rows: 1, words: 4 }, &mut memory);
+    words.set(0, 0, scrambled_bit(chroma, luma, bit))?;
+    words.look(0, 0)
+}
+
 #[test]
 fn scrambled_by_both_parities() -> Result<(), Fail> {
-    // 512 becomes 513, and 1019 becomes 1018
-    check(scrambled_bit(512, 64, true))?;
-    check(!scrambled_bit(1019, 940, true))
+    check_eq(carrying(512, 64, true)?, 513)?;
+    check_eq(carrying(1019, 940, true)?, 1018)?;
+    check(carried_bit(513, 64))?;
+    check(carried_bit(1018, 940))
 }
 
 // Chroma words of 512, in cells whose upper six bits are ones, and luma words of 64.

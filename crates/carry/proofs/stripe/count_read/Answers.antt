@@ -14,6 +14,6 @@ loop-column-again g c =
     let P = Reads (g .R·Raster .at (c .args .slab .now)) (c .args .stripe) in
     let i = c .loop-column .inv in
     elim (c .if-reads-back .came) [
-      then-reads-back w ↦ (subst (Counted P _) (sym (w .read-is)) (one (i .0) (c .reads-back .ensures .0 (w .if-reads-back .taken))), omega (arith, w .read-is))
-    | else-reads-back w ↦ (subst (Counted P _) (sym (w .read-is)) (not (i .0) (not-from-decides (c .reads-back .result) (c .reads-back .ensures) (w .if-reads-back .left))), omega (arith, w .read-is))
+      | then-reads-back w ↦ (subst (Counted P _) (sym (w .read-is)) (one (i .0) (c .reads-back .ensures .0 (w .if-reads-back .taken))), omega (arith, w .read-is))
+      | else-reads-back w ↦ (subst (Counted P _) (sym (w .read-is)) (not (i .0) (not-from-decides (c .reads-back .result) (c .reads-back .ensures) (w .if-reads-back .left))), omega (arith, w .read-is))
     ]

@@ -15,5 +15,5 @@ returns c =
     let l : Laden (c .args .stripe) 1440 45 (packedAt (c .args .memory .now) 1440) (packedAt (e .last .slab .memory .now) 1440) = rw (w, s .ensures .words, s .ensures .value) at (e .ensures .laden) in
     record {
       answer = ap Ok (count-all (c .count-read .ensures) (e .ensures .laden .reads));
-      laden = search (needs, l)
+      laden = search (needs, l);
     }

@@ -21,8 +21,8 @@ returns g c =
       words = w .ensures .words ∙ words;
       kept = w .ensures .kept;
       one = record {
-          reads = sym (read-inside (m .rows (w .last .slab)) (m .words (w .last .slab)) (c .args .column) (m .at (w .last .slab)) (w .ensures .rows ∙ rows) (w .ensures .words ∙ words) (search needs)) ∙ w .ensures .reads ok (c .block-at .ensures .reference) ∙ ap Ok b;
-          others = λ k d h. w .ensures .others k d (omega (arith, rows)) (omega (arith, words, h));
-          only = λ i j hi hj. w .ensures .only i j (omega (arith, rows)) (omega (arith, words))
-        }
+        reads = sym (read-inside (m .rows (w .last .slab)) (m .words (w .last .slab)) (c .args .column) (m .at (w .last .slab)) (w .ensures .rows ∙ rows) (w .ensures .words ∙ words) (search needs)) ∙ w .ensures .reads ok (c .block-at .ensures .reference) ∙ ap Ok b;
+        others = λ k d h. w .ensures .others k d (omega (arith, rows)) (omega (arith, words, h));
+        only = λ i j hi hj. w .ensures .only i j (omega (arith, rows)) (omega (arith, words));
+      };
     }

@@ -12,7 +12,7 @@ pub returns : need.returns
 returns g c =
     let m = g .R·Raster in
     let s = c .args .self .now in
-    let f = s .frame in
+    let f = s .bounds in
     let n = m .rows (s .below) in
     let w = m .words (s .below) in
     let r = c .args .row in
@@ -21,7 +21,7 @@ returns g c =
     let h : (i j : ℕ) → i < n → j < w → m .at (c .set .last .self) i j ≡ replaced (m .at (s .below)) (f .top + r) (f .left + p) (c .args .bit) i j = λ i j hi hj. c .set .ensures .after i j hi hj ∙ rw (a .0) in
     record {
       answer = c .set .ensures .answer ∙ rw (a .0) (answered-inside n w (f .top + r) (f .left + p) tt (cut-inside n (f .top) (f .size .rows) r (a .1) .0) (cut-inside w (f .left) (f .size .words) p (a .2) .0));
-      frame = refl;
+      bounds = refl;
       rows = c .set .ensures .rows;
       words = c .set .ensures .words;
       kept = c .set .ensures .kept;
