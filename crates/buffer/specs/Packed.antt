@@ -1,4 +1,4 @@
--- The packed buffer: four words in five bytes, most significant bit first, with no gap between rows.
+-- The packed buffer: each five bytes hold four words, from the highest bit down, and a row begins where the one before it ends.
 use Prim.Native.Nat.{ℕ, _+_, _*_, _-_, _/_, _%_, _^_, _<_, _≤_}
 use native.Mathlib.Omega.{arith}
 use mathlib.Core.Bool.{Bool, cond}

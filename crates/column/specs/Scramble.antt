@@ -4,7 +4,7 @@ use mathlib.Core.Bool.{Bool, cond}
 use lib.Dec.{eqb}
 use lib.Count.{ones}
 
--- the parity of a word: the number of ones in its bits 9 to 2, modulo 2
+-- the parity of a word: 1 if an odd number of its eight upper bits are set; bits 1 and 0 do not count
 abbrev pub parity : ℕ → ℕ
 parity x = ones (x / 4 % 256) % 2
 
