@@ -8,7 +8,7 @@ use lib.ListN.{getD}
 use Rattle.std.specs.shelf.Lists.{All}
 use Rattle.std.proofs.shelf.Tests.{and-parts, and-from, eqb-true, eq-eqb}
 use native.Mathlib.Omega.{arith}
-use Rattle.record.specs.Layout.{Name, Sync, FrFlSrib, TopFieldFirst, RepeatFirstField, Chroma422420, QScaleType, MbQuant, MbMfwd, MbMbwd, MbPattern, MbIntra, DctType, Reference, Element, Mv000, Mv001, Mv010, Mv011, Mv100, Mv101, Mv110, Mv111, MotionType, SkippedMb, NumOtherBits, SliceStartFlag, NumMvBits, QScaleCode, MbVertFieldSel, NumCoefBits, CodedBlockPattern, widthOf, found, rowsWith, clear}
+use Rattle.record.specs.Layout.{Name, Sync, FrFlSrib, TopFieldFirst, RepeatFirstField, Chroma422420, QScaleType, MbQuant, MbMfwd, MbMbwd, MbPattern, MbIntra, DctType, Reference, Element, Mv000, Mv001, Mv010, Mv011, Mv100, Mv101, Mv110, Mv111, MotionType, SkippedMb, NumOtherBits, SliceStartFlag, NumMvBits, QScaleCode, MbVertFieldSel, NumCoefBits, CodedBlockPattern, widthOf, found, rowsWith, reservedClear}
 
 -- num_mv_bits is cut in two, and stands in rows 7 and 9
 high-bits : (a n : ℕ) → (a * 128 + (n / 4 % 64 * 2 + (0 * 1 + 0))) / 2 % 64 ≡ n / 4 % 64
@@ -121,8 +121,8 @@ abbrev pub Cleared : List ℕ → Type 0
 Cleared rows =
     (getD rows 6 0 / 1 % 4 ≡ 0) × (getD rows 7 0 / 1 % 2 ≡ 0) × (getD rows 8 0 / 1 % 8 ≡ 0) × (getD rows 10 0 / 1 % 8 ≡ 0) × (getD rows 11 0 / 1 % 8 ≡ 0) × (getD rows 12 0 / 1 % 4 ≡ 0) × (getD rows 13 0 / 1 % 256 ≡ 0)
 
-pub cleared : (rows : List ℕ) → clear rows ≡ true → Cleared rows
-unfolding clear
+pub cleared : (rows : List ℕ) → reservedClear rows ≡ true → Cleared rows
+unfolding reservedClear
 cleared rows h =
     let p6 = and-parts (eqb (getD rows 6 0 / 1 % 4) 0) _ h in
     let p7 = and-parts (eqb (getD rows 7 0 / 1 % 2) 0) _ (p6 .1) in
@@ -133,11 +133,11 @@ cleared rows h =
     let p13 = and-parts (eqb (getD rows 13 0 / 1 % 256) 0) _ (p12 .1) in
     (eqb-true _ _ (p6 .0), eqb-true _ _ (p7 .0), eqb-true _ _ (p8 .0), eqb-true _ _ (p10 .0), eqb-true _ _ (p11 .0), eqb-true _ _ (p12 .0), eqb-true _ _ (p13 .0))
 
-pub clear-from : (rows : List ℕ) → Cleared rows → clear rows ≡ true
-unfolding clear
+pub clear-from : (rows : List ℕ) → Cleared rows → reservedClear rows ≡ true
+unfolding reservedClear
 clear-from rows h =
     and-from _ _ (eq-eqb (getD rows 6 0 / 1 % 4) 0 (h .0)) (and-from _ _ (eq-eqb (getD rows 7 0 / 1 % 2) 0 (h .1)) (and-from _ _ (eq-eqb (getD rows 8 0 / 1 % 8) 0 (h .2)) (and-from _ _ (eq-eqb (getD rows 10 0 / 1 % 8) 0 (h .3)) (and-from _ _ (eq-eqb (getD rows 11 0 / 1 % 8) 0 (h .4)) (and-from _ _ (eq-eqb (getD rows 12 0 / 1 % 4) 0 (h .5)) (and-from _ _ (eq-eqb (getD rows 13 0 / 1 % 256) 0 (h .6)) refl))))))
 
 -- joined rows have all reserved bits 0
-pub rows-clear : (values : Name → ℕ) → clear (rowsWith values) ≡ true
+pub rows-clear : (values : Name → ℕ) → reservedClear (rowsWith values) ≡ true
 rows-clear values = clear-from (rowsWith values) (omega arith, omega arith, omega arith, omega arith, omega arith, omega arith, omega arith)

@@ -9,7 +9,7 @@ use Rattle.std.specs.shelf.Lists.{All}
 use Rattle.std.proofs.shelf.Bits.{mod-pow-add}
 use Rattle.std.proofs.shelf.Counted.{fill-by-all}
 use Rattle.std.proofs.shelf.Elements.{all-getD}
-use Rattle.record.specs.Layout.{Part, cut, width, partWidth, found, joined, layout, rowsWith, clear}
+use Rattle.record.specs.Layout.{Part, cut, width, partWidth, found, joined, layout, rowsWith, reservedClear}
 use Rattle.record.proofs.Fields.{cleared}
 
 -- the cuts of a row, joined
@@ -24,7 +24,7 @@ cuts-all (p ∷ ps) row = ap (λ rest. cut p ps row * 2 ^ width ps + rest) (cuts
 whole : (ps : List Part) (row : ℕ) → width ps ≡ 16 → row < 2 ^ 16 → cuts ps row ≡ row
 whole ps row wide h = cuts-all ps row ∙ rw wide (omega arith)
 
-module _ (rows : List ℕ) (count : length rows ≡ 14) (narrow : All (λ row. row < 2 ^ 16) rows) (reserved : clear rows ≡ true) where
+module _ (rows : List ℕ) (count : length rows ≡ 14) (narrow : All (λ row. row < 2 ^ 16) rows) (reserved : reservedClear rows ≡ true) where
   small : (i : ℕ) → i < 14 → getD rows i 0 < 2 ^ 16
   small i h = all-getD (λ row. row < 2 ^ 16) rows i 0 (omega arith) narrow
 

@@ -1,12 +1,13 @@
 // A macroblock's record, the block that carries it, and the block's data rows.
 mod decode;
 mod encode;
+mod laws;
 mod record;
+mod rules;
 
 pub use decode::block_of;
 pub use decode::has_sync;
 pub use decode::reserved_clear;
-
 pub use encode::data_rows;
 pub use record::Block;
 pub use record::BlockEq;
@@ -16,5 +17,5 @@ pub use record::PictureFlagsEq;
 pub use record::PictureFlagsPartialEq;
 pub use record::Record;
 pub use record::RecordEq;
-pub use record::check_record;
 pub use record::RecordPartialEq;
+pub use rules::check_record;

@@ -5,15 +5,16 @@ use mathlib.Core.Bool.{true}
 use mathlib.Core.List.{List}
 use native.Mathlib.Omega.{arith}
 use Rattle.std.proofs.shelf.Tests.{eq-eqb, eqb-true}
-use Rattle.record.specs.Layout.{Sync, Reference, Element, found, rowsWith, blockWith, valuesOf, dataRows, blockIn, synced, clear}
-use Rattle.record.specs.Laws.{Fitting, Formed, DecodingUndoes, EncodingUndoes, SpeltOnce}
+use Rattle.record.specs.Layout.{Sync, Reference, Element, found, rowsWith, blockWith, valuesOf, dataRows, blockOf, hasSync, reservedClear}
+use Rattle.record.specs.Rules.{fitsWidths}
+use Rattle.record.specs.Laws.{RowsFilled, DecodingUndoesEncoding, EncodingUndoesDecoding, SpeltOnce, Samples}
 use Rattle.record.proofs.Fields.{back, found-small, rows-narrow, rows-clear}
 use Rattle.record.proofs.Rows.{rejoined}
 use Rattle.record.proofs.Values.{values-small, same-block, same-values, within-with}
 use Rattle.record.proofs.Widths.{within, passes}
 
-pub decoding-undoes : DecodingUndoes
-unfolding dataRows blockIn synced
+pub decoding-undoes : DecodingUndoesEncoding
+unfolding dataRows blockOf hasSync
 decoding-undoes b h =
     let small = values-small b h in (
       record {
@@ -25,8 +26,8 @@ decoding-undoes b h =
       ap blockWith (fun-ext (back (valuesOf b) small)) ∙ same-block b (within (b .«record») (h .widths)),
     )
 
-pub encoding-undoes : EncodingUndoes
-unfolding dataRows blockIn synced
+pub encoding-undoes : EncodingUndoesDecoding
+unfolding dataRows blockOf hasSync
 encoding-undoes rows h = (
     record {
       widths = passes _ (within-with (found rows) (found-small rows));
@@ -38,3 +39,21 @@ encoding-undoes rows h = (
 
 pub spelt-once : SpeltOnce
 spelt-once rows others h k same = sym (encoding-undoes rows h .1) ∙ (ap dataRows same ∙ encoding-undoes others k .1)
+
+pub rows-filled : RowsFilled
+rows-filled = refl
+
+pub samples : Samples
+unfolding dataRows blockOf fitsWidths
+samples = record {
+    flags = refl;
+    vector = refl;
+    minus-one = refl;
+    minus-one-back = refl;
+    mv000-least = refl;
+    mv000-under = refl;
+    mv000-most = refl;
+    mv000-over = refl;
+    mv001-most = refl;
+    mv001-over = refl
+  }
