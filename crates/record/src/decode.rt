@@ -2,7 +2,7 @@
 ghost use mathlib.Core.Path.{_≡_};
 ghost use Prim.Native.Nat.{_/_, _%_};
 ghost use Rattle.record.specs.Components.{flagsOf, vectorsOf, numbersOf};
-ghost use Rattle.record.specs.Layout.{layout, Sync, Reference, Element, signed, flagsWith, recordWith, found, blockOf, hasSync, clearFrom, reservedClear};
+ghost use Rattle.record.specs.Layout.{layout, Sync, Reference, Element, isOne, signed, flagsWith, recordWith, found, blockOf, hasSync, clearFrom, reservedClear};
 ghost use Rattle.record.specs.Laws.{EncodingUndoesDecoding, SpeltOnce};
 use crate::Block;
 use crate::PictureFlags;
@@ -145,10 +145,16 @@ fn flags_of(rows: &[u16; 14]) -> [bool; 8]
         rows[0] / 8 % 2 == 1,
         rows[0] / 4 % 2 == 1,
         rows[0] / 2 % 2 == 1,
-        rows[0] % 2 == 1,
-        rows[4] % 2 == 1,
+        is_odd(rows[0]),
+        is_odd(rows[4]),
         rows[6] / 4 % 2 == 1,
     ]
+}
+
+fn is_odd(row: u16) -> bool
+    ensures { λ r. ⌜ r ≡ isOne (row / 1 % 2) ⌝ }
+{
+    row % 2 == 1
 }
 
 fn vectors_of(rows: &[u16; 14]) -> [i16; 8]
