@@ -1,7 +1,7 @@
 -- Flags as bits, and two's complement, there and back.
-use Prim.Native.Nat.{ℕ, suc, _+_, _*_, _-_, _^_, _<_, _≤_}
+use Prim.Native.Nat.{ℕ, suc, _*_, _-_, _^_, _<_}
 use mathlib.Core.Path.{_≡_, refl, ap, _∙_}
-use mathlib.Core.Bool.{Bool, true, false, cond}
+use mathlib.Core.Bool.{Bool, true, false}
 use native.Mathlib.Omega.{arith}
 use lib.Dec.{ltb}
 use lib.IntN.{ℤ, pos, negsuc}
@@ -42,4 +42,4 @@ module _ (w : ℕ) (halves : 2 ^ w ≡ 2 * 2 ^ (w - 1)) where
   pub signed-fits : (x : ℕ) → x < 2 ^ w → fitsSigned w (signed w x) ≡ true
   signed-fits x h =
       cond-both (ltb x (2 ^ (w - 1))) (pos x) (negsuc (2 ^ w - suc x)) (λ z. fitsSigned w z ≡ true) (λ e. e)
-        (λ e. lt-ltb (2 ^ w - suc x) (2 ^ (w - 1)) (omega (arith, ltb-false x (2 ^ (w - 1)) e)))
+      (λ e. lt-ltb (2 ^ w - suc x) (2 ^ (w - 1)) (omega (arith, ltb-false x (2 ^ (w - 1)) e)))

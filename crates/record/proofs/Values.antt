@@ -2,7 +2,6 @@
 use Prim.Native.Nat.{ℕ, _^_, _<_}
 use mathlib.Core.Path.{_≡_, refl, sym}
 use native.Mathlib.Omega.{arith}
-use Rattle.record.specs.declared.record.Record.{Record}
 use Rattle.record.specs.declared.record.Block.{Block}
 use Rattle.record.specs.Layout.{Name, Sync, FrFlSrib, TopFieldFirst, RepeatFirstField, Chroma422420, QScaleType, MbQuant, MbMfwd, MbMbwd, MbPattern, MbIntra, DctType, Reference, Element, Mv000, Mv001, Mv010, Mv011, Mv100, Mv101, Mv110, Mv111, MotionType, SkippedMb, NumOtherBits, SliceStartFlag, NumMvBits, QScaleCode, MbVertFieldSel, NumCoefBits, CodedBlockPattern, widthOf, valuesOf, blockWith, recordWith}
 use Rattle.record.specs.Rules.{Within}
@@ -47,41 +46,41 @@ values-small b h CodedBlockPattern = within (b .«record») (h .widths) .coded-b
 -- a block is the one with the values of its fields
 pub same-block : (b : Block) → Within (b .«record») → blockWith (valuesOf b) ≡ b
 same-block b h i = record {
-    picture = record {
-        «fr_fl_srib» = one-of-bit (b .picture .«fr_fl_srib») i;
-        «top_field_first» = one-of-bit (b .picture .«top_field_first») i;
-        «repeat_first_field» = one-of-bit (b .picture .«repeat_first_field») i;
-        «chroma_422_420» = one-of-bit (b .picture .«chroma_422_420») i;
-        «q_scale_type» = one-of-bit (b .picture .«q_scale_type») i
-      };
-    reference = b .reference;
-    element = b .element;
-    «record» = record {
-        «mb_quant» = one-of-bit (b .«record» .«mb_quant») i;
-        «mb_mfwd» = one-of-bit (b .«record» .«mb_mfwd») i;
-        «mb_mbwd» = one-of-bit (b .«record» .«mb_mbwd») i;
-        «mb_pattern» = one-of-bit (b .«record» .«mb_pattern») i;
-        «mb_intra» = one-of-bit (b .«record» .«mb_intra») i;
-        «dct_type» = one-of-bit (b .«record» .«dct_type») i;
-        «skipped_mb» = one-of-bit (b .«record» .«skipped_mb») i;
-        «slice_start_flag» = one-of-bit (b .«record» .«slice_start_flag») i;
-        mv000 = signed-of-twos 13 refl (b .«record» .mv000) (h .mv000) i;
-        mv001 = signed-of-twos 9 refl (b .«record» .mv001) (h .mv001) i;
-        mv010 = signed-of-twos 13 refl (b .«record» .mv010) (h .mv010) i;
-        mv011 = signed-of-twos 9 refl (b .«record» .mv011) (h .mv011) i;
-        mv100 = signed-of-twos 13 refl (b .«record» .mv100) (h .mv100) i;
-        mv101 = signed-of-twos 9 refl (b .«record» .mv101) (h .mv101) i;
-        mv110 = signed-of-twos 13 refl (b .«record» .mv110) (h .mv110) i;
-        mv111 = signed-of-twos 9 refl (b .«record» .mv111) (h .mv111) i;
-        «motion_type» = b .«record» .«motion_type»;
-        «num_other_bits» = b .«record» .«num_other_bits»;
-        «num_mv_bits» = b .«record» .«num_mv_bits»;
-        «q_scale_code» = b .«record» .«q_scale_code»;
-        «mb_vert_field_sel» = b .«record» .«mb_vert_field_sel»;
-        «num_coef_bits» = b .«record» .«num_coef_bits»;
-        «coded_block_pattern» = b .«record» .«coded_block_pattern»
-      }
-  }
+  picture = record {
+    «fr_fl_srib» = one-of-bit (b .picture .«fr_fl_srib») i;
+    «top_field_first» = one-of-bit (b .picture .«top_field_first») i;
+    «repeat_first_field» = one-of-bit (b .picture .«repeat_first_field») i;
+    «chroma_422_420» = one-of-bit (b .picture .«chroma_422_420») i;
+    «q_scale_type» = one-of-bit (b .picture .«q_scale_type») i;
+  };
+  reference = b .reference;
+  element = b .element;
+  «record» = record {
+    «mb_quant» = one-of-bit (b .«record» .«mb_quant») i;
+    «mb_mfwd» = one-of-bit (b .«record» .«mb_mfwd») i;
+    «mb_mbwd» = one-of-bit (b .«record» .«mb_mbwd») i;
+    «mb_pattern» = one-of-bit (b .«record» .«mb_pattern») i;
+    «mb_intra» = one-of-bit (b .«record» .«mb_intra») i;
+    «dct_type» = one-of-bit (b .«record» .«dct_type») i;
+    «skipped_mb» = one-of-bit (b .«record» .«skipped_mb») i;
+    «slice_start_flag» = one-of-bit (b .«record» .«slice_start_flag») i;
+    mv000 = signed-of-twos 13 refl (b .«record» .mv000) (h .mv000) i;
+    mv001 = signed-of-twos 9 refl (b .«record» .mv001) (h .mv001) i;
+    mv010 = signed-of-twos 13 refl (b .«record» .mv010) (h .mv010) i;
+    mv011 = signed-of-twos 9 refl (b .«record» .mv011) (h .mv011) i;
+    mv100 = signed-of-twos 13 refl (b .«record» .mv100) (h .mv100) i;
+    mv101 = signed-of-twos 9 refl (b .«record» .mv101) (h .mv101) i;
+    mv110 = signed-of-twos 13 refl (b .«record» .mv110) (h .mv110) i;
+    mv111 = signed-of-twos 9 refl (b .«record» .mv111) (h .mv111) i;
+    «motion_type» = b .«record» .«motion_type»;
+    «num_other_bits» = b .«record» .«num_other_bits»;
+    «num_mv_bits» = b .«record» .«num_mv_bits»;
+    «q_scale_code» = b .«record» .«q_scale_code»;
+    «mb_vert_field_sel» = b .«record» .«mb_vert_field_sel»;
+    «num_coef_bits» = b .«record» .«num_coef_bits»;
+    «coded_block_pattern» = b .«record» .«coded_block_pattern»;
+  };
+}
 
 module _ (values : Name → ℕ) (small : (n : Name) → values n < 2 ^ widthOf n) where
   -- the block with these values has them
@@ -121,19 +120,19 @@ module _ (values : Name → ℕ) (small : (n : Name) → values n < 2 ^ widthOf 
   -- and its record is within the widths
   pub within-with : Within (recordWith values)
   within-with = record {
-      mv000 = signed-fits 13 refl (values Mv000) (small Mv000);
-      mv001 = signed-fits 9 refl (values Mv001) (small Mv001);
-      mv010 = signed-fits 13 refl (values Mv010) (small Mv010);
-      mv011 = signed-fits 9 refl (values Mv011) (small Mv011);
-      mv100 = signed-fits 13 refl (values Mv100) (small Mv100);
-      mv101 = signed-fits 9 refl (values Mv101) (small Mv101);
-      mv110 = signed-fits 13 refl (values Mv110) (small Mv110);
-      mv111 = signed-fits 9 refl (values Mv111) (small Mv111);
-      motion-type = small MotionType;
-      num-other-bits = small NumOtherBits;
-      num-mv-bits = small NumMvBits;
-      q-scale-code = small QScaleCode;
-      mb-vert-field-sel = small MbVertFieldSel;
-      num-coef-bits = small NumCoefBits;
-      coded-block-pattern = small CodedBlockPattern
-    }
+    mv000 = signed-fits 13 refl (values Mv000) (small Mv000);
+    mv001 = signed-fits 9 refl (values Mv001) (small Mv001);
+    mv010 = signed-fits 13 refl (values Mv010) (small Mv010);
+    mv011 = signed-fits 9 refl (values Mv011) (small Mv011);
+    mv100 = signed-fits 13 refl (values Mv100) (small Mv100);
+    mv101 = signed-fits 9 refl (values Mv101) (small Mv101);
+    mv110 = signed-fits 13 refl (values Mv110) (small Mv110);
+    mv111 = signed-fits 9 refl (values Mv111) (small Mv111);
+    motion-type = small MotionType;
+    num-other-bits = small NumOtherBits;
+    num-mv-bits = small NumMvBits;
+    q-scale-code = small QScaleCode;
+    mb-vert-field-sel = small MbVertFieldSel;
+    num-coef-bits = small NumCoefBits;
+    coded-block-pattern = small CodedBlockPattern;
+  }

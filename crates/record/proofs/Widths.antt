@@ -1,5 +1,4 @@
 -- The test of a record's widths, component by component.
-use Prim.Native.Nat.{ℕ, _<_}
 use mathlib.Core.Path.{_≡_}
 use mathlib.Core.Bool.{Bool, true, _&&_}
 use Rattle.std.proofs.shelf.Tests.{and-parts, and-from, ltb-true, lt-ltb}
@@ -36,7 +35,7 @@ within r h =
       motion-type = ltb-true _ _ (k .0);
       q-scale-code = ltb-true _ _ (k .1);
       mb-vert-field-sel = ltb-true _ _ (k .2);
-      coded-block-pattern = ltb-true _ _ (k .3)
+      coded-block-pattern = ltb-true _ _ (k .3);
     }
 
 -- and back: what is within each width passes
@@ -50,7 +49,7 @@ pub passes : (r : Record) → Within r → fitsWidths r ≡ true
 unfolding fitsWidths
 passes r h =
     four-from (horizontalsFit r) (verticalsFit r) (countsFit r) (codesFit r)
-      (four-from _ _ _ _ (h .mv000) (h .mv010) (h .mv100) (h .mv110))
-      (four-from _ _ _ _ (h .mv001) (h .mv011) (h .mv101) (h .mv111))
-      (three-from _ _ _ (lt-ltb _ _ (h .num-other-bits)) (lt-ltb _ _ (h .num-mv-bits)) (lt-ltb _ _ (h .num-coef-bits)))
-      (four-from _ _ _ _ (lt-ltb _ _ (h .motion-type)) (lt-ltb _ _ (h .q-scale-code)) (lt-ltb _ _ (h .mb-vert-field-sel)) (lt-ltb _ _ (h .coded-block-pattern)))
+    (four-from _ _ _ _ (h .mv000) (h .mv010) (h .mv100) (h .mv110))
+    (four-from _ _ _ _ (h .mv001) (h .mv011) (h .mv101) (h .mv111))
+    (three-from _ _ _ (lt-ltb _ _ (h .num-other-bits)) (lt-ltb _ _ (h .num-mv-bits)) (lt-ltb _ _ (h .num-coef-bits)))
+    (four-from _ _ _ _ (lt-ltb _ _ (h .motion-type)) (lt-ltb _ _ (h .q-scale-code)) (lt-ltb _ _ (h .mb-vert-field-sel)) (lt-ltb _ _ (h .coded-block-pattern)))

@@ -6,7 +6,6 @@ use mathlib.Core.List.{List, map}
 use lib.IntN.{ℤ, pos, negsuc}
 use lib.ListN.{length, getD, replicate}
 use Rattle.std.specs.shelf.Lists.{All}
-use Rattle.record.specs.declared.record.PictureFlags.{PictureFlags}
 use Rattle.record.specs.declared.record.Record.{Record}
 use Rattle.record.specs.declared.record.Block.{Block}
 use Rattle.record.specs.Layout.{layout, width, dataRows, blockOf, hasSync, reservedClear}
@@ -42,45 +41,45 @@ SpeltOnce = (rows others : List ℕ) → Formed rows → Formed others → block
 -- a record with two vectors, a motion type and mb_intra, all else 0
 abbrev sampleRecord : ℤ → ℤ → ℕ → Bool → Record
 sampleRecord x y motion intra = record {
-    «mb_quant» = false;
-    «mb_mfwd» = false;
-    «mb_mbwd» = false;
-    «mb_pattern» = false;
-    «mb_intra» = intra;
-    «dct_type» = false;
-    mv000 = x;
-    mv001 = y;
-    mv010 = pos 0;
-    mv011 = pos 0;
-    mv100 = pos 0;
-    mv101 = pos 0;
-    mv110 = pos 0;
-    mv111 = pos 0;
-    «motion_type» = motion;
-    «skipped_mb» = false;
-    «num_other_bits» = 0;
-    «slice_start_flag» = false;
-    «num_mv_bits» = 0;
-    «q_scale_code» = 0;
-    «mb_vert_field_sel» = 0;
-    «num_coef_bits» = 0;
-    «coded_block_pattern» = 0
-  }
+  «mb_quant» = false;
+  «mb_mfwd» = false;
+  «mb_mbwd» = false;
+  «mb_pattern» = false;
+  «mb_intra» = intra;
+  «dct_type» = false;
+  mv000 = x;
+  mv001 = y;
+  mv010 = pos 0;
+  mv011 = pos 0;
+  mv100 = pos 0;
+  mv101 = pos 0;
+  mv110 = pos 0;
+  mv111 = pos 0;
+  «motion_type» = motion;
+  «skipped_mb» = false;
+  «num_other_bits» = 0;
+  «slice_start_flag» = false;
+  «num_mv_bits» = 0;
+  «q_scale_code» = 0;
+  «mb_vert_field_sel» = 0;
+  «num_coef_bits» = 0;
+  «coded_block_pattern» = 0;
+}
 
 -- a block of a picture with fr_fl_srib and top_field_first
 abbrev sampleBlock : Record → Block
 sampleBlock r = record {
-    picture = record {
-        «fr_fl_srib» = true;
-        «top_field_first» = true;
-        «repeat_first_field» = false;
-        «chroma_422_420» = false;
-        «q_scale_type» = false
-      };
-    reference = 0;
-    element = 0;
-    «record» = r
-  }
+  picture = record {
+    «fr_fl_srib» = true;
+    «top_field_first» = true;
+    «repeat_first_field» = false;
+    «chroma_422_420» = false;
+    «q_scale_type» = false;
+  };
+  reference = 0;
+  element = 0;
+  «record» = r;
+}
 
 abbrev fitsVectors : ℤ → ℤ → Bool
 fitsVectors x y = fitsWidths (sampleRecord x y 0 false)

@@ -55,19 +55,28 @@ pub data Part : Type 0 where
 -- the table: the parts of each data row, from the most significant bit
 abbrev pub layout : List (List Part)
 layout =
-    (whole Sync 5 ∷ whole FrFlSrib 1 ∷ whole TopFieldFirst 1 ∷ whole RepeatFirstField 1 ∷ whole Chroma422420 1 ∷ whole QScaleType 1
-      ∷ whole MbQuant 1 ∷ whole MbMfwd 1 ∷ whole MbMbwd 1 ∷ whole MbPattern 1 ∷ whole MbIntra 1 ∷ whole DctType 1 ∷ [])
+    -- row 0
+    (whole Sync 5
+    ∷ whole FrFlSrib 1 ∷ whole TopFieldFirst 1 ∷ whole RepeatFirstField 1 ∷ whole Chroma422420 1 ∷ whole QScaleType 1
+    ∷ whole MbQuant 1 ∷ whole MbMfwd 1 ∷ whole MbMbwd 1 ∷ whole MbPattern 1 ∷ whole MbIntra 1 ∷ whole DctType 1 ∷ [])
+    -- row 1
     ∷ (whole Reference 16 ∷ [])
+    -- rows 2 and 3
     ∷ (bits Element 31 16 ∷ [])
     ∷ (bits Element 15 0 ∷ [])
+    -- rows 4 and 5
     ∷ (whole Mv000 13 ∷ whole MotionType 2 ∷ whole SkippedMb 1 ∷ [])
     ∷ (whole Mv001 9 ∷ whole NumOtherBits 7 ∷ [])
+    -- rows 6 and 7
     ∷ (whole Mv010 13 ∷ whole SliceStartFlag 1 ∷ reserved 2 ∷ [])
     ∷ (whole Mv011 9 ∷ bits NumMvBits 7 2 ∷ reserved 1 ∷ [])
+    -- rows 8 and 9
     ∷ (whole Mv100 13 ∷ reserved 3 ∷ [])
     ∷ (whole Mv101 9 ∷ whole QScaleCode 5 ∷ bits NumMvBits 1 0 ∷ [])
+    -- rows 10 and 11
     ∷ (whole Mv110 13 ∷ reserved 3 ∷ [])
     ∷ (whole Mv111 9 ∷ whole MbVertFieldSel 4 ∷ reserved 3 ∷ [])
+    -- rows 12 and 13
     ∷ (whole NumCoefBits 14 ∷ reserved 2 ∷ [])
     ∷ (whole CodedBlockPattern 8 ∷ reserved 8 ∷ [])
     ∷ []
@@ -192,50 +201,50 @@ valuesOf b CodedBlockPattern = b .«record» .«coded_block_pattern»
 
 abbrev pub flagsWith : (Name → ℕ) → PictureFlags
 flagsWith values = record {
-    «fr_fl_srib» = isOne (values FrFlSrib);
-    «top_field_first» = isOne (values TopFieldFirst);
-    «repeat_first_field» = isOne (values RepeatFirstField);
-    «chroma_422_420» = isOne (values Chroma422420);
-    «q_scale_type» = isOne (values QScaleType)
-  }
+  «fr_fl_srib» = isOne (values FrFlSrib);
+  «top_field_first» = isOne (values TopFieldFirst);
+  «repeat_first_field» = isOne (values RepeatFirstField);
+  «chroma_422_420» = isOne (values Chroma422420);
+  «q_scale_type» = isOne (values QScaleType);
+}
 
 abbrev vector : (Name → ℕ) → Name → ℤ
 vector values n = signed (widthOf n) (values n)
 
 abbrev pub recordWith : (Name → ℕ) → Record
 recordWith values = record {
-    «mb_quant» = isOne (values MbQuant);
-    «mb_mfwd» = isOne (values MbMfwd);
-    «mb_mbwd» = isOne (values MbMbwd);
-    «mb_pattern» = isOne (values MbPattern);
-    «mb_intra» = isOne (values MbIntra);
-    «dct_type» = isOne (values DctType);
-    mv000 = vector values Mv000;
-    mv001 = vector values Mv001;
-    mv010 = vector values Mv010;
-    mv011 = vector values Mv011;
-    mv100 = vector values Mv100;
-    mv101 = vector values Mv101;
-    mv110 = vector values Mv110;
-    mv111 = vector values Mv111;
-    «motion_type» = values MotionType;
-    «skipped_mb» = isOne (values SkippedMb);
-    «num_other_bits» = values NumOtherBits;
-    «slice_start_flag» = isOne (values SliceStartFlag);
-    «num_mv_bits» = values NumMvBits;
-    «q_scale_code» = values QScaleCode;
-    «mb_vert_field_sel» = values MbVertFieldSel;
-    «num_coef_bits» = values NumCoefBits;
-    «coded_block_pattern» = values CodedBlockPattern
-  }
+  «mb_quant» = isOne (values MbQuant);
+  «mb_mfwd» = isOne (values MbMfwd);
+  «mb_mbwd» = isOne (values MbMbwd);
+  «mb_pattern» = isOne (values MbPattern);
+  «mb_intra» = isOne (values MbIntra);
+  «dct_type» = isOne (values DctType);
+  mv000 = vector values Mv000;
+  mv001 = vector values Mv001;
+  mv010 = vector values Mv010;
+  mv011 = vector values Mv011;
+  mv100 = vector values Mv100;
+  mv101 = vector values Mv101;
+  mv110 = vector values Mv110;
+  mv111 = vector values Mv111;
+  «motion_type» = values MotionType;
+  «skipped_mb» = isOne (values SkippedMb);
+  «num_other_bits» = values NumOtherBits;
+  «slice_start_flag» = isOne (values SliceStartFlag);
+  «num_mv_bits» = values NumMvBits;
+  «q_scale_code» = values QScaleCode;
+  «mb_vert_field_sel» = values MbVertFieldSel;
+  «num_coef_bits» = values NumCoefBits;
+  «coded_block_pattern» = values CodedBlockPattern;
+}
 
 abbrev pub blockWith : (Name → ℕ) → Block
 blockWith values = record {
-    picture = flagsWith values;
-    reference = values Reference;
-    element = values Element;
-    «record» = recordWith values
-  }
+  picture = flagsWith values;
+  reference = values Reference;
+  element = values Element;
+  «record» = recordWith values;
+}
 
 -- Encoding: the parts of each row, joined.
 

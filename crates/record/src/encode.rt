@@ -144,7 +144,9 @@ fn row_9(block: &Block) -> u16
     ensures { λ r. ⌜ r ≡ rowOf (now (block .entry)) 9 ⌝ }
 {
     let record = &block.record;
-    bits_9(record.mv101) * 128 + u16::from(record.q_scale_code) * 4 + u16::from(record.num_mv_bits % 4)
+    bits_9(record.mv101) * 128
+        + u16::from(record.q_scale_code) * 4
+        + u16::from(record.num_mv_bits % 4)
 }
 
 // mv110 13, reserved 3.
