@@ -23,11 +23,11 @@ use Rattle.check.specs.Burst.{Rows, AlikeBut, Alone, Fits, fitting, withCheck}
 use Rattle.check.proofs.Bursts.{fitting-decides, burst-never-passes, checked-fits}
 use Rattle.check.proofs.Laws.{first-rows, checked-from-fits}
 use Rattle.record.specs.declared.record.Block.{Block}
-use Rattle.record.specs.Layout.{dataRows, blockIn, synced, clear}
+use Rattle.record.specs.Layout.{dataRows, blockOf, hasSync, reservedClear}
 use Rattle.record.specs.Rules.{fitsWidths, keepsRules, checked}
 use Rattle.record.specs.Laws.{Fitting, Formed}
-use Rattle.record.proofs.Laws.{decoding-undoes, encoding-undoes}
-use Rattle.block.specs.Code.{refuse, then, rowsOf, encoded, blockOf, decoded, WellFormed, NoneNear, OnlyThese}
+use Rattle.record.proofs.Undoing.{decoding-undoes, encoding-undoes}
+use Rattle.block.specs.Code.{refuse, then, rowsOf, encoded, blockIn, decoded, WellFormed, NoneNear, OnlyThese}
 
 -- a test that refuses was passed
 passed : {A : Type 0} (test : Bool) (fault : Fault) (rest : Result A Fault) → isOk (refuse test fault rest) ≡ true → (test ≡ false) × (isOk rest ≡ true)
@@ -42,11 +42,11 @@ not-false false e = cc
 module _ (rows : List ℕ) where
   formed-if-accepted : isOk (decoded rows) ≡ true → WellFormed rows
   formed-if-accepted e =
-      let s = passed (not (synced (take 14 rows))) _ _ e in
+      let s = passed (not (hasSync (take 14 rows))) _ _ e in
       let c = passed (not (fitting rows)) _ _ (s .1) in
-      let r = passed (not (clear (take 14 rows))) _ _ (c .1) in
-      let n = passed (ltb 65520 (blockOf rows .reference)) _ _ (r .1) in
-      let k = passed (not (keepsRules (blockOf rows .«record»))) _ _ (n .1) in
+      let r = passed (not (reservedClear (take 14 rows))) _ _ (c .1) in
+      let n = passed (ltb 65520 (blockIn rows .reference)) _ _ (r .1) in
+      let k = passed (not (keepsRules (blockIn rows .«record»))) _ _ (n .1) in
       record {
         sync = not-false _ (s .0);
         check = fitting-decides rows .0 (not-false _ (c .0));
@@ -55,10 +55,10 @@ module _ (rows : List ℕ) where
         rules = not-false _ (k .0);
       }
 
-  pub accepted-if-formed : WellFormed rows → decoded rows ≡ Ok (blockOf rows)
+  pub accepted-if-formed : WellFormed rows → decoded rows ≡ Ok (blockIn rows)
   accepted-if-formed w =
       let f : fitting rows ≡ true = fitting-decides rows .1 (w .check) in
-      let n : ltb 65520 (blockOf rows .reference) ≡ false = let h = w .reference in grind (arith, tells) in
+      let n : ltb 65520 (blockIn rows .reference) ≡ false = let h = w .reference in grind (arith, tells) in
       rw (w .sync, f, w .reserved, n, w .rules)
 
   pub accepts : Decides (isOk (decoded rows)) (WellFormed rows)
@@ -81,11 +81,11 @@ checked-kept : (b : Block) → fitsWidths (b .«record») ≡ true → keepsRule
 checked-kept b f k = rw (f, k)
 
 -- encoding undoes decoding
-pub encoded-back : (rows : List ℕ) → Rows 16 rows → WellFormed rows → encoded (blockOf rows) ≡ Ok rows
+pub encoded-back : (rows : List ℕ) → Rows 16 rows → WellFormed rows → encoded (blockIn rows) ≡ Ok rows
 encoded-back rows k w =
     let u = encoding-undoes (take 14 rows) (data-formed rows k w) in
     let e = checked-from-fits rows k (w .check) in
-    ap (λ r. then r (λ _. Ok (rowsOf (blockOf rows)))) (checked-kept (blockOf rows) (u .0 .widths) (w .rules)) ∙ ap (λ d. Ok (withCheck d)) (u .1) ∙ ap Ok (sym e)
+    ap (λ r. then r (λ _. Ok (rowsOf (blockIn rows)))) (checked-kept (blockIn rows) (u .0 .widths) (w .rules)) ∙ ap (λ d. Ok (withCheck d)) (u .1) ∙ ap Ok (sym e)
 
 -- decoding undoes encoding
 module _ (b : Block) (f : Fitting b) (k : keepsRules (b .«record») ≡ true) (h : b .reference ≤ 65520) where
@@ -95,11 +95,11 @@ module _ (b : Block) (f : Fitting b) (k : keepsRules (b .«record») ≡ true) (
       let n : length (dataRows b) ≡ 14 = u .0 .count in
       let t : take 14 (rowsOf b) ≡ dataRows b = ap (λ m. take m (rowsOf b)) (sym n) ∙ take-append-seam (dataRows b) _ in
       let c = checked-fits (dataRows b) (record { long = n; narrow = λ i hi. all-getD (λ row. row < 2 ^ 16) (dataRows b) i 0 (omega arith) (u .0 .narrow) }) in
-      let is : blockOf (rowsOf b) ≡ b = ap blockIn t ∙ u .1 in
+      let is : blockIn (rowsOf b) ≡ b = ap blockOf t ∙ u .1 in
       accepted-if-formed (rowsOf b) (record {
-        sync = ap synced t ∙ u .0 .sync;
+        sync = ap hasSync t ∙ u .0 .sync;
         check = c .1;
-        reserved = ap clear t ∙ u .0 .reserved;
+        reserved = ap reservedClear t ∙ u .0 .reserved;
         reference = subst (λ x. x .reference ≤ 65520) (sym is) h;
         rules = ap (λ x. keepsRules (x .«record»)) is ∙ k;
       })
@@ -114,19 +114,19 @@ module _ (rows : List ℕ) (k : Rows 16 rows) (w : WellFormed rows) where
         | inr f ↦ f
       ]
 
-  pub only-these : OnlyThese rows (blockOf rows)
+  pub only-these : OnlyThese rows (blockIn rows)
   only-these others ko e =
       let wo : WellFormed others = accepts others .0 (ap isOk e) in
-      let same : blockOf others ≡ blockOf rows = cc (accepted-if-formed others wo, e) in
+      let same : blockIn others ≡ blockIn rows = cc (accepted-if-formed others wo, e) in
       let two : Ok rows ≡ Ok others = sym (encoded-back rows k w) ∙ ap encoded (sym same) ∙ encoded-back others ko wo in
       sym cc
 
 -- what holds of well-formed rows holds of what is accepted
-pub of-accepted : (rows : List ℕ) (r : Result Block Fault) → r ≡ decoded rows → (P : Block → Type 0) → (WellFormed rows → P (blockOf rows)) → made r P
+pub of-accepted : (rows : List ℕ) (r : Result Block Fault) → r ≡ decoded rows → (P : Block → Type 0) → (WellFormed rows → P (blockIn rows)) → made r P
 of-accepted rows (Err fault) e P h = tt
 of-accepted rows (Ok b) e P h =
     let w : WellFormed rows = accepts rows .0 (ap isOk (sym e)) in
-    let same : blockOf rows ≡ b = cc (accepted-if-formed rows w, e) in
+    let same : blockIn rows ≡ b = cc (accepted-if-formed rows w, e) in
     subst P same (h w)
 
 checked-if-encoded : (b : Block) (rows : List ℕ) → Ok rows ≡ encoded b → checked (b .«record») ≡ Ok tt

@@ -12,7 +12,7 @@ use Rattle.fault.specs.declared.Fault.{Fault}
 use Rattle.fault.specs.declared.Fault.the-variants.{Sync, BlockCheck, ReservedBit, ReferenceRange, RecordRule}
 use Rattle.check.specs.Burst.{Rows, AlikeBut, Fits, fitting, withCheck}
 use Rattle.record.specs.declared.record.Block.{Block}
-use Rattle.record.specs.Layout.{dataRows, blockIn, synced, clear}
+use Rattle.record.specs.Layout.{dataRows, blockOf, hasSync, reservedClear}
 use Rattle.record.specs.Rules.{keepsRules, checked}
 
 -- refuse if the test holds, else go on
@@ -33,26 +33,26 @@ abbrev pub encoded : Block → Result (List ℕ) Fault
 encoded b = then (checked (b .«record»)) (λ _. Ok (rowsOf b))
 
 -- the block that rows spell, in their first 14
-abbrev pub blockOf : List ℕ → Block
-blockOf rows = blockIn (take 14 rows)
+abbrev pub blockIn : List ℕ → Block
+blockIn rows = blockOf (take 14 rows)
 
 -- decoding: 13, 14, 15, 16, 17, else the block
 abbrev pub decoded : List ℕ → Result Block Fault
 decoded rows =
-    refuse (not (synced (take 14 rows))) Sync
+    refuse (not (hasSync (take 14 rows))) Sync
     (refuse (not (fitting rows)) BlockCheck
-    (refuse (not (clear (take 14 rows))) ReservedBit
-    (refuse (ltb 65520 (blockOf rows .reference)) ReferenceRange
-    (refuse (not (keepsRules (blockOf rows .«record»))) RecordRule
-    (Ok (blockOf rows))))))
+    (refuse (not (reservedClear (take 14 rows))) ReservedBit
+    (refuse (ltb 65520 (blockIn rows .reference)) ReferenceRange
+    (refuse (not (keepsRules (blockIn rows .«record»))) RecordRule
+    (Ok (blockIn rows))))))
 
 -- Well formed: the sync code is 11111, the check fits, the reserved bits are 0, the reference is at most 65520, and the record keeps the rules.
 pub record WellFormed (rows : List ℕ) : Type 0 where
-  pub sync : synced (take 14 rows) ≡ true
+  pub sync : hasSync (take 14 rows) ≡ true
   pub check : Fits rows
-  pub reserved : clear (take 14 rows) ≡ true
-  pub reference : blockOf rows .reference ≤ 65520
-  pub rules : keepsRules (blockOf rows .«record») ≡ true
+  pub reserved : reservedClear (take 14 rows) ≡ true
+  pub reference : blockIn rows .reference ≤ 65520
+  pub rules : keepsRules (blockIn rows .«record») ≡ true
 
 -- rows that differ from these within two neighbouring rows, and only there, are not read as a block
 abbrev pub NoneNear : List ℕ → Type 0

@@ -3,4 +3,4 @@ mod Rows
 mod Signs
 mod Values
 mod Widths
-pub mod Laws
+pub mod Undoing

@@ -1,5 +1,5 @@
--- What is found in the rows joins to the rows again.
-use Prim.Native.Nat.{ℕ, _+_, _*_, _/_, _%_, _^_, _<_}
+-- What is found in well-formed rows joins to these rows again.
+use Prim.Native.Nat.{ℕ, _+_, _*_, _%_, _^_, _<_}
 use mathlib.Core.Path.{_≡_, refl, sym, ap, _∙_}
 use mathlib.Core.Bool.{true}
 use mathlib.Core.List.{List, [], _∷_}
@@ -9,66 +9,74 @@ use Rattle.std.specs.shelf.Lists.{All}
 use Rattle.std.proofs.shelf.Bits.{mod-pow-add}
 use Rattle.std.proofs.shelf.Counted.{fill-by-all}
 use Rattle.std.proofs.shelf.Elements.{all-getD}
-use Rattle.record.specs.Layout.{Part, cut, width, partWidth, found, joined, layout, rowsWith, clear}
+use Rattle.record.specs.Layout.{Part, cut, width, partWidth, found, joined, layout, rowsWith, reservedClear}
 use Rattle.record.proofs.Fields.{cleared}
 
--- the cuts of a row, joined
+-- the bits of a row at each part, joined, are the row
 abbrev cuts : List Part → ℕ → ℕ
 cuts [] row = 0
 cuts (p ∷ ps) row = cut p ps row * 2 ^ width ps + cuts ps row
 
-cuts-all : (ps : List Part) (row : ℕ) → cuts ps row ≡ row % 2 ^ width ps
-cuts-all [] row = omega arith
-cuts-all (p ∷ ps) row = ap (λ rest. cut p ps row * 2 ^ width ps + rest) (cuts-all ps row) ∙ sym (mod-pow-add row (partWidth p) (width ps))
+cuts-joined : (ps : List Part) (row : ℕ) → cuts ps row ≡ row % 2 ^ width ps
+cuts-joined [] row = omega arith
+cuts-joined (p ∷ ps) row = ap (λ rest. cut p ps row * 2 ^ width ps + rest) (cuts-joined ps row) ∙ sym (mod-pow-add row (partWidth p) (width ps))
 
-whole : (ps : List Part) (row : ℕ) → width ps ≡ 16 → row < 2 ^ 16 → cuts ps row ≡ row
-whole ps row wide h = cuts-all ps row ∙ rw wide (omega arith)
+cuts-whole : (ps : List Part) (row : ℕ) → width ps ≡ 16 → row < 2 ^ 16 → cuts ps row ≡ row
+cuts-whole ps row wide h = cuts-joined ps row ∙ rw wide (omega arith)
 
-module _ (rows : List ℕ) (count : length rows ≡ 14) (narrow : All (λ row. row < 2 ^ 16) rows) (reserved : clear rows ≡ true) where
+module _ (rows : List ℕ) (count : length rows ≡ 14) (narrow : All (λ row. row < 2 ^ 16) rows) (reserved : reservedClear rows ≡ true) where
+  abbrev Rejoined : ℕ → Type 0
+  Rejoined i = joined (found rows) (getD layout i []) ≡ getD rows i 0
+
   small : (i : ℕ) → i < 14 → getD rows i 0 < 2 ^ 16
   small i h = all-getD (λ row. row < 2 ^ 16) rows i 0 (omega arith) narrow
 
-  row-0 : joined (found rows) (getD layout 0 []) ≡ getD rows 0 0
-  row-0 = whole (getD layout 0 []) (getD rows 0 0) refl (small 0 (omega arith))
+  by-cuts : (i : ℕ) → i < 14 → width (getD layout i []) ≡ 16 → cuts (getD layout i []) (getD rows i 0) ≡ getD rows i 0
+  by-cuts i h wide = cuts-whole (getD layout i []) (getD rows i 0) wide (small i h)
 
-  row-1 : joined (found rows) (getD layout 1 []) ≡ getD rows 1 0
-  row-1 = whole (getD layout 1 []) (getD rows 1 0) refl (small 1 (omega arith))
+  row-0 : Rejoined 0
+  row-0 = by-cuts 0 (omega arith) refl
 
-  row-2 : joined (found rows) (getD layout 2 []) ≡ getD rows 2 0
+  row-1 : Rejoined 1
+  row-1 = by-cuts 1 (omega arith) refl
+
+  row-2 : Rejoined 2
   row-2 = omega (arith, small 2 (omega arith))
 
-  row-3 : joined (found rows) (getD layout 3 []) ≡ getD rows 3 0
+  row-3 : Rejoined 3
   row-3 = omega (arith, small 3 (omega arith))
 
-  row-4 : joined (found rows) (getD layout 4 []) ≡ getD rows 4 0
-  row-4 = whole (getD layout 4 []) (getD rows 4 0) refl (small 4 (omega arith))
+  row-4 : Rejoined 4
+  row-4 = by-cuts 4 (omega arith) refl
 
-  row-5 : joined (found rows) (getD layout 5 []) ≡ getD rows 5 0
-  row-5 = whole (getD layout 5 []) (getD rows 5 0) refl (small 5 (omega arith))
+  row-5 : Rejoined 5
+  row-5 = by-cuts 5 (omega arith) refl
 
-  row-6 : joined (found rows) (getD layout 6 []) ≡ getD rows 6 0
-  row-6 = omega (arith, whole (getD layout 6 []) (getD rows 6 0) refl (small 6 (omega arith)), cleared rows reserved .0)
+  row-6 : Rejoined 6
+  row-6 = omega (arith, by-cuts 6 (omega arith) refl, cleared rows reserved .0)
 
-  row-7 : joined (found rows) (getD layout 7 []) ≡ getD rows 7 0
-  row-7 = omega (arith, whole (getD layout 7 []) (getD rows 7 0) refl (small 7 (omega arith)), cleared rows reserved .1)
+  row-7 : Rejoined 7
+  row-7 = omega (arith, by-cuts 7 (omega arith) refl, cleared rows reserved .1)
 
-  row-8 : joined (found rows) (getD layout 8 []) ≡ getD rows 8 0
-  row-8 = omega (arith, whole (getD layout 8 []) (getD rows 8 0) refl (small 8 (omega arith)), cleared rows reserved .2)
+  row-8 : Rejoined 8
+  row-8 = omega (arith, by-cuts 8 (omega arith) refl, cleared rows reserved .2)
 
-  row-9 : joined (found rows) (getD layout 9 []) ≡ getD rows 9 0
-  row-9 = omega (arith, whole (getD layout 9 []) (getD rows 9 0) refl (small 9 (omega arith)))
+  row-9 : Rejoined 9
+  row-9 = omega (arith, by-cuts 9 (omega arith) refl)
 
-  row-10 : joined (found rows) (getD layout 10 []) ≡ getD rows 10 0
-  row-10 = omega (arith, whole (getD layout 10 []) (getD rows 10 0) refl (small 10 (omega arith)), cleared rows reserved .3)
+  row-10 : Rejoined 10
+  row-10 = omega (arith, by-cuts 10 (omega arith) refl, cleared rows reserved .3)
 
-  row-11 : joined (found rows) (getD layout 11 []) ≡ getD rows 11 0
-  row-11 = omega (arith, whole (getD layout 11 []) (getD rows 11 0) refl (small 11 (omega arith)), cleared rows reserved .4)
+  row-11 : Rejoined 11
+  row-11 = omega (arith, by-cuts 11 (omega arith) refl, cleared rows reserved .4)
 
-  row-12 : joined (found rows) (getD layout 12 []) ≡ getD rows 12 0
-  row-12 = omega (arith, whole (getD layout 12 []) (getD rows 12 0) refl (small 12 (omega arith)), cleared rows reserved .5)
+  row-12 : Rejoined 12
+  row-12 = omega (arith, by-cuts 12 (omega arith) refl, cleared rows reserved .5)
 
-  row-13 : joined (found rows) (getD layout 13 []) ≡ getD rows 13 0
-  row-13 = omega (arith, whole (getD layout 13 []) (getD rows 13 0) refl (small 13 (omega arith)), cleared rows reserved .6)
+  row-13 : Rejoined 13
+  row-13 = omega (arith, by-cuts 13 (omega arith) refl, cleared rows reserved .6)
 
   pub rejoined : rowsWith (found rows) ≡ rows
-  rejoined = (λ i. row-0 i ∷ row-1 i ∷ row-2 i ∷ row-3 i ∷ row-4 i ∷ row-5 i ∷ row-6 i ∷ row-7 i ∷ row-8 i ∷ row-9 i ∷ row-10 i ∷ row-11 i ∷ row-12 i ∷ row-13 i ∷ []) ∙ sym (fill-by-all (λ k. getD rows k 0) rows 14 0 count (λ k _. refl))
+  rejoined =
+      (λ i. row-0 i ∷ row-1 i ∷ row-2 i ∷ row-3 i ∷ row-4 i ∷ row-5 i ∷ row-6 i ∷ row-7 i ∷ row-8 i ∷ row-9 i ∷ row-10 i ∷ row-11 i ∷ row-12 i ∷ row-13 i ∷ [])
+      ∙ sym (fill-by-all (λ k. getD rows k 0) rows 14 0 count (λ k _. refl))

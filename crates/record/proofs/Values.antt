@@ -2,7 +2,6 @@
 use Prim.Native.Nat.{ℕ, _^_, _<_}
 use mathlib.Core.Path.{_≡_, refl, sym}
 use native.Mathlib.Omega.{arith}
-use Rattle.record.specs.declared.record.Record.{Record}
 use Rattle.record.specs.declared.record.Block.{Block}
 use Rattle.record.specs.Layout.{Name, Sync, FrFlSrib, TopFieldFirst, RepeatFirstField, Chroma422420, QScaleType, MbQuant, MbMfwd, MbMbwd, MbPattern, MbIntra, DctType, Reference, Element, Mv000, Mv001, Mv010, Mv011, Mv100, Mv101, Mv110, Mv111, MotionType, SkippedMb, NumOtherBits, SliceStartFlag, NumMvBits, QScaleCode, MbVertFieldSel, NumCoefBits, CodedBlockPattern, widthOf, valuesOf, blockWith, recordWith}
 use Rattle.record.specs.Rules.{Within}

@@ -1,5 +1,6 @@
--- The layout of a block. A block has 16 rows of 16 bits, filled from the most significant bit. Rows 14 and 15 hold the check over the
--- others and are not spoken of here: rows 0 to 13 are the data rows.
+-- The layout of a block: one table, and what encoder and decoder make of it.
+-- A block has 16 rows of 16 bits, each filled from the most significant bit. Rows 14 and 15 hold the check over the others and are not
+-- spoken of here; rows 0 to 13 are the data rows.
 use Prim.Native.Nat.{ℕ, suc, _+_, _-_, _*_, _/_, _%_, _^_}
 use mathlib.Core.Bool.{Bool, cond, true, false, _&&_}
 use mathlib.Core.List.{List, [], _∷_, map}
@@ -10,7 +11,7 @@ use Rattle.record.specs.declared.record.Record.{Record}
 use Rattle.record.specs.declared.record.PictureFlags.{PictureFlags}
 use Rattle.record.specs.declared.record.Block.{Block}
 
--- the fields of the data rows
+-- what stands in the data rows
 pub data Name : Type 0 where
   Sync : Name
   FrFlSrib : Name
@@ -44,33 +45,43 @@ pub data Name : Type 0 where
   NumCoefBits : Name
   CodedBlockPattern : Name
 
--- a part of a row: a field of so many bits, some bits of a field from the highest to the lowest, or so many reserved bits
+-- A part of a row: the whole of what is named, in so many bits; its bits from a highest to a lowest, where 0 is the least
+-- significant; or so many reserved bits, which are 0.
 pub data Part : Type 0 where
-  field : Name → ℕ → Part
+  whole : Name → ℕ → Part
   bits : Name → ℕ → ℕ → Part
   reserved : ℕ → Part
 
--- the table: the parts of each row, from the most significant bit
+-- the table: the parts of each data row, from the most significant bit
 abbrev pub layout : List (List Part)
 layout =
-    (field Sync 5 ∷ field FrFlSrib 1 ∷ field TopFieldFirst 1 ∷ field RepeatFirstField 1 ∷ field Chroma422420 1 ∷ field QScaleType 1
-    ∷ field MbQuant 1 ∷ field MbMfwd 1 ∷ field MbMbwd 1 ∷ field MbPattern 1 ∷ field MbIntra 1 ∷ field DctType 1 ∷ [])
-    ∷ (field Reference 16 ∷ [])
+    -- row 0
+    (whole Sync 5
+    ∷ whole FrFlSrib 1 ∷ whole TopFieldFirst 1 ∷ whole RepeatFirstField 1 ∷ whole Chroma422420 1 ∷ whole QScaleType 1
+    ∷ whole MbQuant 1 ∷ whole MbMfwd 1 ∷ whole MbMbwd 1 ∷ whole MbPattern 1 ∷ whole MbIntra 1 ∷ whole DctType 1 ∷ [])
+    -- row 1
+    ∷ (whole Reference 16 ∷ [])
+    -- rows 2 and 3
     ∷ (bits Element 31 16 ∷ [])
     ∷ (bits Element 15 0 ∷ [])
-    ∷ (field Mv000 13 ∷ field MotionType 2 ∷ field SkippedMb 1 ∷ [])
-    ∷ (field Mv001 9 ∷ field NumOtherBits 7 ∷ [])
-    ∷ (field Mv010 13 ∷ field SliceStartFlag 1 ∷ reserved 2 ∷ [])
-    ∷ (field Mv011 9 ∷ bits NumMvBits 7 2 ∷ reserved 1 ∷ [])
-    ∷ (field Mv100 13 ∷ reserved 3 ∷ [])
-    ∷ (field Mv101 9 ∷ field QScaleCode 5 ∷ bits NumMvBits 1 0 ∷ [])
-    ∷ (field Mv110 13 ∷ reserved 3 ∷ [])
-    ∷ (field Mv111 9 ∷ field MbVertFieldSel 4 ∷ reserved 3 ∷ [])
-    ∷ (field NumCoefBits 14 ∷ reserved 2 ∷ [])
-    ∷ (field CodedBlockPattern 8 ∷ reserved 8 ∷ [])
+    -- rows 4 and 5
+    ∷ (whole Mv000 13 ∷ whole MotionType 2 ∷ whole SkippedMb 1 ∷ [])
+    ∷ (whole Mv001 9 ∷ whole NumOtherBits 7 ∷ [])
+    -- rows 6 and 7
+    ∷ (whole Mv010 13 ∷ whole SliceStartFlag 1 ∷ reserved 2 ∷ [])
+    ∷ (whole Mv011 9 ∷ bits NumMvBits 7 2 ∷ reserved 1 ∷ [])
+    -- rows 8 and 9
+    ∷ (whole Mv100 13 ∷ reserved 3 ∷ [])
+    ∷ (whole Mv101 9 ∷ whole QScaleCode 5 ∷ bits NumMvBits 1 0 ∷ [])
+    -- rows 10 and 11
+    ∷ (whole Mv110 13 ∷ reserved 3 ∷ [])
+    ∷ (whole Mv111 9 ∷ whole MbVertFieldSel 4 ∷ reserved 3 ∷ [])
+    -- rows 12 and 13
+    ∷ (whole NumCoefBits 14 ∷ reserved 2 ∷ [])
+    ∷ (whole CodedBlockPattern 8 ∷ reserved 8 ∷ [])
     ∷ []
 
--- names are told apart by a number of each
+-- names are told apart by a number for each
 abbrev numberOf : Name → ℕ
 numberOf Sync = 0
 numberOf FrFlSrib = 1
@@ -107,9 +118,9 @@ numberOf CodedBlockPattern = 30
 abbrev same : Name → Name → Bool
 same n m = eqb (numberOf n) (numberOf m)
 
--- the width of a part, and of parts together
+-- the width of a part, and of several side by side
 abbrev pub partWidth : Part → ℕ
-partWidth (field n w) = w
+partWidth (whole n w) = w
 partWidth (bits n high low) = suc high - low
 partWidth (reserved w) = w
 
@@ -117,15 +128,15 @@ abbrev pub width : List Part → ℕ
 width [] = 0
 width (p ∷ ps) = partWidth p + width ps
 
--- the width of a field: that of all its parts
-abbrev ofName : Name → Part → Bool
-ofName n (field m w) = same n m
-ofName n (bits m high low) = same n m
-ofName n (reserved w) = false
+-- the width of what is named: that of all its parts in the table
+abbrev named : Name → Part → Bool
+named n (whole m w) = same n m
+named n (bits m high low) = same n m
+named n (reserved w) = false
 
 abbrev widthInRow : Name → List Part → ℕ → ℕ
 widthInRow n [] rest = rest
-widthInRow n (p ∷ ps) rest = cond (ofName n p) (partWidth p + widthInRow n ps rest) (widthInRow n ps rest)
+widthInRow n (p ∷ ps) rest = cond (named n p) (partWidth p + widthInRow n ps rest) (widthInRow n ps rest)
 
 abbrev widthIn : Name → List (List Part) → ℕ
 widthIn n [] = 0
@@ -133,6 +144,15 @@ widthIn n (ps ∷ pss) = widthInRow n ps (widthIn n pss)
 
 abbrev pub widthOf : Name → ℕ
 widthOf n = widthIn n layout
+
+-- The values: what a block has under each name, as a number, and the block that has given values.
+
+-- a flag as a bit, and back
+abbrev pub bit : Bool → ℕ
+bit b = cond b 1 0
+
+abbrev pub isOne : ℕ → Bool
+isOne x = eqb x 1
 
 -- a signed number in two's complement of so many bits, and back
 abbrev pub twos : ℕ → ℤ → ℕ
@@ -142,16 +162,12 @@ twos w (negsuc n) = 2 ^ w - suc n
 abbrev pub signed : ℕ → ℕ → ℤ
 signed w n = cond (ltb n (2 ^ (w - 1))) (pos n) (negsuc (2 ^ w - suc n))
 
--- a flag as a bit, and back
-abbrev pub bit : Bool → ℕ
-bit b = cond b 1 0
+-- five ones
+abbrev pub syncCode : ℕ
+syncCode = 31
 
-abbrev pub isOne : ℕ → Bool
-isOne x = eqb x 1
-
--- the values of the fields in a block
 abbrev pub valuesOf : Block → Name → ℕ
-valuesOf b Sync = 31
+valuesOf b Sync = syncCode
 valuesOf b FrFlSrib = bit (b .picture .«fr_fl_srib»)
 valuesOf b TopFieldFirst = bit (b .picture .«top_field_first»)
 valuesOf b RepeatFirstField = bit (b .picture .«repeat_first_field»)
@@ -183,7 +199,6 @@ valuesOf b MbVertFieldSel = b .«record» .«mb_vert_field_sel»
 valuesOf b NumCoefBits = b .«record» .«num_coef_bits»
 valuesOf b CodedBlockPattern = b .«record» .«coded_block_pattern»
 
--- the block whose fields have these values
 abbrev pub flagsWith : (Name → ℕ) → PictureFlags
 flagsWith values = record {
   «fr_fl_srib» = isOne (values FrFlSrib);
@@ -193,8 +208,8 @@ flagsWith values = record {
   «q_scale_type» = isOne (values QScaleType);
 }
 
-abbrev vectorWith : (Name → ℕ) → Name → ℤ
-vectorWith values n = signed (widthOf n) (values n)
+abbrev vector : (Name → ℕ) → Name → ℤ
+vector values n = signed (widthOf n) (values n)
 
 abbrev pub recordWith : (Name → ℕ) → Record
 recordWith values = record {
@@ -204,14 +219,14 @@ recordWith values = record {
   «mb_pattern» = isOne (values MbPattern);
   «mb_intra» = isOne (values MbIntra);
   «dct_type» = isOne (values DctType);
-  mv000 = vectorWith values Mv000;
-  mv001 = vectorWith values Mv001;
-  mv010 = vectorWith values Mv010;
-  mv011 = vectorWith values Mv011;
-  mv100 = vectorWith values Mv100;
-  mv101 = vectorWith values Mv101;
-  mv110 = vectorWith values Mv110;
-  mv111 = vectorWith values Mv111;
+  mv000 = vector values Mv000;
+  mv001 = vector values Mv001;
+  mv010 = vector values Mv010;
+  mv011 = vector values Mv011;
+  mv100 = vector values Mv100;
+  mv101 = vector values Mv101;
+  mv110 = vector values Mv110;
+  mv111 = vector values Mv111;
   «motion_type» = values MotionType;
   «skipped_mb» = isOne (values SkippedMb);
   «num_other_bits» = values NumOtherBits;
@@ -231,38 +246,43 @@ blockWith values = record {
   «record» = recordWith values;
 }
 
--- the parts of a row joined, of the values of the fields
-abbrev partOf : (Name → ℕ) → Part → ℕ
-partOf values (field n w) = values n
-partOf values (bits n high low) = values n / 2 ^ low % 2 ^ (suc high - low)
-partOf values (reserved w) = 0
+-- Encoding: the parts of each row, joined.
+
+-- what a part has of the values
+abbrev pick : (Name → ℕ) → Part → ℕ
+pick values (whole n w) = values n
+pick values (bits n high low) = values n / 2 ^ low % 2 ^ (suc high - low)
+pick values (reserved w) = 0
 
 abbrev pub joined : (Name → ℕ) → List Part → ℕ
 joined values [] = 0
-joined values (p ∷ ps) = partOf values p * 2 ^ width ps + joined values ps
+joined values (p ∷ ps) = pick values p * 2 ^ width ps + joined values ps
+
+-- the data rows that have these values
+abbrev pub rowsWith : (Name → ℕ) → List ℕ
+rowsWith values = map (joined values) layout
 
 -- row i of a block, and its data rows
 abbrev pub rowOf : Block → ℕ → ℕ
 rowOf b i = joined (valuesOf b) (getD layout i [])
 
-abbrev pub rowsWith : (Name → ℕ) → List ℕ
-rowsWith values = map (joined values) layout
-
 unfoldable pub dataRows : Block → List ℕ
 dataRows b = rowsWith (valuesOf b)
 
--- the bits of a row at a part, where other parts follow it
+-- Decoding: what the rows have under each name, found by walking the table.
+
+-- the bits of a row at a part, where others follow it
 abbrev pub cut : Part → List Part → ℕ → ℕ
 cut p after row = row / 2 ^ width after % 2 ^ partWidth p
 
--- what the rows have of a field, found by walking the table
 abbrev foundInRow : Name → List Part → ℕ → ℕ → ℕ
 foundInRow n [] row rest = rest
-foundInRow n (field m w ∷ ps) row rest = cond (same n m) (cut (field m w) ps row) (foundInRow n ps row rest)
+foundInRow n (whole m w ∷ ps) row rest = cond (same n m) (cut (whole m w) ps row) (foundInRow n ps row rest)
 foundInRow n (bits m high low ∷ ps) row rest =
     cond (same n m) (cut (bits m high low) ps row * 2 ^ low + foundInRow n ps row rest) (foundInRow n ps row rest)
 foundInRow n (reserved w ∷ ps) row rest = foundInRow n ps row rest
 
+-- the rows from the i-th on, where the table has these rows left
 abbrev foundFrom : Name → ℕ → List (List Part) → List ℕ → ℕ
 foundFrom n i [] rows = 0
 foundFrom n i (ps ∷ pss) rows = foundInRow n ps (getD rows i 0) (foundFrom n (suc i) pss rows)
@@ -270,18 +290,18 @@ foundFrom n i (ps ∷ pss) rows = foundInRow n ps (getD rows i 0) (foundFrom n (
 abbrev pub found : List ℕ → Name → ℕ
 found rows n = foundFrom n 0 layout rows
 
--- the block that the rows spell
-unfoldable pub blockIn : List ℕ → Block
-blockIn rows = blockWith (found rows)
+-- the block that the rows spell, whatever the sync code and the reserved bits are
+unfoldable pub blockOf : List ℕ → Block
+blockOf rows = blockWith (found rows)
 
--- the sync code is all ones
-unfoldable pub synced : List ℕ → Bool
-synced rows = eqb (found rows Sync) 31
+-- whether the rows have the sync code
+unfoldable pub hasSync : List ℕ → Bool
+hasSync rows = eqb (found rows Sync) syncCode
 
--- all reserved bits are 0
+-- whether all reserved bits are 0
 abbrev clearInRow : List Part → ℕ → Bool → Bool
 clearInRow [] row rest = rest
-clearInRow (field n w ∷ ps) row rest = clearInRow ps row rest
+clearInRow (whole n w ∷ ps) row rest = clearInRow ps row rest
 clearInRow (bits n high low ∷ ps) row rest = clearInRow ps row rest
 clearInRow (reserved w ∷ ps) row rest = eqb (cut (reserved w) ps row) 0 && clearInRow ps row rest
 
@@ -289,5 +309,5 @@ abbrev pub clearFrom : ℕ → List (List Part) → List ℕ → Bool
 clearFrom i [] rows = true
 clearFrom i (ps ∷ pss) rows = clearInRow ps (getD rows i 0) (clearFrom (suc i) pss rows)
 
-unfoldable pub clear : List ℕ → Bool
-clear rows = clearFrom 0 layout rows
+unfoldable pub reservedClear : List ℕ → Bool
+reservedClear rows = clearFrom 0 layout rows

@@ -1,3 +1,4 @@
+pub mod Components
 pub mod Layout
 pub mod Rules
 pub mod Laws

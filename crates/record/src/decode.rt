@@ -1,17 +1,17 @@
-// What the data rows of a block spell.
+// What the data rows of a block spell, and whether they are well-formed.
 ghost use mathlib.Core.Path.{_≡_};
-ghost use Prim.Native.Nat.{ℕ, _+_, _*_, _/_, _%_, _^_, _<_};
-ghost use lib.ListN.{getD};
-ghost use Rattle.record.specs.Layout.{layout, Sync, Element, found, synced, clear, clearFrom, flagsWith, recordWith, blockIn, signed, isOne};
+ghost use Prim.Native.Nat.{_/_, _%_};
+ghost use Rattle.record.specs.Components.{flagsOf, vectorsOf, numbersOf};
+ghost use Rattle.record.specs.Layout.{layout, Sync, Reference, Element, isOne, signed, flagsWith, recordWith, found, blockOf, hasSync, clearFrom, reservedClear};
+ghost use Rattle.record.specs.Laws.{EncodingUndoesDecoding, SpeltOnce};
 use crate::Block;
 use crate::PictureFlags;
 use crate::Record;
-use crate::record::MbFlags;
-use crate::record::Numbers;
-use crate::record::Vectors;
+use crate::laws::layout_stands;
 
+// Whether the rows begin with the sync code.
 pub fn has_sync(rows: &[u16; 14]) -> bool
-    ensures { λ r. ⌜ r ≡ synced (now (rows .entry)) ⌝ }
+    ensures { λ r. ⌜ r ≡ hasSync (now (rows .entry)) ⌝ }
 {
     sync_of(rows) == 31
 }
@@ -22,12 +22,14 @@ fn sync_of(rows: &[u16; 14]) -> u16
     rows[0] / 2048
 }
 
+// Whether all reserved bits are 0.
 pub fn reserved_clear(rows: &[u16; 14]) -> bool
-    ensures { λ r. ⌜ r ≡ clear (now (rows .entry)) ⌝ }
+    ensures { λ r. ⌜ r ≡ reservedClear (now (rows .entry)) ⌝ }
 {
     ends_clear(rows)
 }
 
+// All reserved bits stand at the ends of rows.
 fn ends_clear(rows: &[u16; 14]) -> bool
     ensures { λ r. ⌜ r ≡ clearFrom 0 layout (now (rows .entry)) ⌝ }
 {
@@ -40,7 +42,28 @@ fn ends_clear(rows: &[u16; 14]) -> bool
         && rows[13] % 256 == 0
 }
 
-fn flags_of(rows: &[u16; 14]) -> PictureFlags
+// The block that the rows spell, whatever their sync code and reserved bits are. Encoding it gives well-formed rows back.
+pub fn block_of(rows: &[u16; 14]) -> Block
+    ensures answer { λ r. ⌜ r ≡ blockOf (now (rows .entry)) ⌝ }
+    ensures redone { λ _. ⌜ EncodingUndoesDecoding ⌝ }
+    ensures once { λ _. ⌜ SpeltOnce ⌝ }
+{
+    layout_stands();
+    spelt(rows)
+}
+
+fn spelt(rows: &[u16; 14]) -> Block
+    ensures { λ r. ⌜ r ≡ blockOf (now (rows .entry)) ⌝ }
+{
+    Block {
+        picture: picture_of(rows),
+        reference: reference_of(rows),
+        element: element_of(rows),
+        record: record_of(rows),
+    }
+}
+
+fn picture_of(rows: &[u16; 14]) -> PictureFlags
     ensures { λ r. ⌜ r ≡ flagsWith (found (now (rows .entry))) ⌝ }
 {
     PictureFlags {
@@ -52,6 +75,117 @@ fn flags_of(rows: &[u16; 14]) -> PictureFlags
     }
 }
 
+fn reference_of(rows: &[u16; 14]) -> u16
+    ensures { λ r. ⌜ r ≡ found (now (rows .entry)) Reference ⌝ }
+{
+    rows[1]
+}
+
+fn element_of(rows: &[u16; 14]) -> u32
+    ensures { λ r. ⌜ r ≡ found (now (rows .entry)) Element ⌝ }
+{
+    u32::from(rows[2]) * 65536 + u32::from(rows[3])
+}
+
+fn record_of(rows: &[u16; 14]) -> Record
+    ensures { λ r. ⌜ r ≡ recordWith (found (now (rows .entry))) ⌝ }
+{
+    let [
+        mb_quant,
+        mb_mfwd,
+        mb_mbwd,
+        mb_pattern,
+        mb_intra,
+        dct_type,
+        skipped_mb,
+        slice_start_flag,
+    ] = flags_of(rows);
+    let [mv000, mv001, mv010, mv011, mv100, mv101, mv110, mv111] = vectors_of(rows);
+    let [
+        motion_type,
+        num_other_bits,
+        num_mv_bits,
+        q_scale_code,
+        mb_vert_field_sel,
+        coded_block_pattern,
+    ] = numbers_of(rows);
+    Record {
+        mb_quant,
+        mb_mfwd,
+        mb_mbwd,
+        mb_pattern,
+        mb_intra,
+        dct_type,
+        mv000,
+        mv001,
+        mv010,
+        mv011,
+        mv100,
+        mv101,
+        mv110,
+        mv111,
+        motion_type,
+        skipped_mb,
+        num_other_bits,
+        slice_start_flag,
+        num_mv_bits,
+        q_scale_code,
+        mb_vert_field_sel,
+        num_coef_bits: rows[12] / 4,
+        coded_block_pattern,
+    }
+}
+
+fn flags_of(rows: &[u16; 14]) -> [bool; 8]
+    ensures { λ r. ⌜ r ≡ flagsOf (recordWith (found (now (rows .entry)))) ⌝ }
+{
+    [
+        rows[0] / 32 % 2 == 1,
+        rows[0] / 16 % 2 == 1,
+        rows[0] / 8 % 2 == 1,
+        rows[0] / 4 % 2 == 1,
+        rows[0] / 2 % 2 == 1,
+        is_odd(rows[0]),
+        is_odd(rows[4]),
+        rows[6] / 4 % 2 == 1,
+    ]
+}
+
+fn is_odd(row: u16) -> bool
+    ensures { λ r. ⌜ r ≡ isOne (row / 1 % 2) ⌝ }
+{
+    row % 2 == 1
+}
+
+fn vectors_of(rows: &[u16; 14]) -> [i16; 8]
+    ensures { λ r. ⌜ r ≡ vectorsOf (recordWith (found (now (rows .entry)))) ⌝ }
+{
+    [
+        vector_13(rows[4]),
+        vector_9(rows[5]),
+        vector_13(rows[6]),
+        vector_9(rows[7]),
+        vector_13(rows[8]),
+        vector_9(rows[9]),
+        vector_13(rows[10]),
+        vector_9(rows[11]),
+    ]
+}
+
+fn numbers_of(rows: &[u16; 14]) -> [u8; 6]
+    ensures { λ r. ⌜ r ≡ numbersOf (recordWith (found (now (rows .entry)))) ⌝ }
+{
+    [
+        (rows[4] / 2 % 4) as u8,
+        (rows[5] % 128) as u8,
+        (rows[7] / 2 % 64 * 4 + rows[9] % 4) as u8,
+        (rows[9] / 4 % 32) as u8,
+        (rows[11] / 8 % 16) as u8,
+        (rows[13] / 256) as u8,
+    ]
+}
+
+// The horizontal component at the front of a row.
 fn vector_13(row: u16) -> i16
     ensures { λ r. ⌜ r ≡ signed 13 (row / 8 % 8192) ⌝ }
 {
@@ -59,103 +193,10 @@ fn vector_13(row: u16) -> i16
     if bits < 4096 { bits } else { bits - 8192 }
 }
 
+// The vertical component at the front of a row.
 fn vector_9(row: u16) -> i16
     ensures { λ r. ⌜ r ≡ signed 9 (row / 128 % 512) ⌝ }
 {
     let bits = (row / 128) as i16;
     if bits < 256 { bits } else { bits - 512 }
-}
-
-fn mb_flags_of(rows: &[u16; 14]) -> MbFlags
-    ensures { λ r. ⌜ r ≡ record { «mb_quant» = recordWith (found (now (rows .entry))) .«mb_quant»; «mb_mfwd» = recordWith (found (now (rows .entry))) .«mb_mfwd»; «mb_mbwd» = recordWith (found (now (rows .entry))) .«mb_mbwd»; «mb_pattern» = recordWith (found (now (rows .entry))) .«mb_pattern»; «mb_intra» = recordWith (found (now (rows .entry))) .«mb_intra»; «dct_type» = recordWith (found (now (rows .entry))) .«dct_type»; «skipped_mb» = recordWith (found (now (rows .entry))) .«skipped_mb»; «slice_start_flag» = recordWith (found (now (rows .entry))) .«slice_start_flag» } ⌝ }
-{
-    MbFlags {
-        mb_quant: rows[0] / 32 % 2 == 1,
-        mb_mfwd: rows[0] / 16 % 2 == 1,
-        mb_mbwd: rows[0] / 8 % 2 == 1,
-        mb_pattern: rows[0] / 4 % 2 == 1,
-        mb_intra: rows[0] / 2 % 2 == 1,
-        dct_type: rows[0] % 2 == 1,
-        skipped_mb: rows[4] % 2 == 1,
-        slice_start_flag: rows[6] / 4 % 2 == 1,
-    }
-}
-
-fn vectors_of(rows: &[u16; 14]) -> Vectors
-    ensures { λ r. ⌜ r ≡ record { mv000 = recordWith (found (now (rows .entry))) .mv000; mv001 = recordWith (found (now (rows .entry))) .mv001; mv010 = recordWith (found (now (rows .entry))) .mv010; mv011 = recordWith (found (now (rows .entry))) .mv011; mv100 = recordWith (found (now (rows .entry))) .mv100; mv101 = recordWith (found (now (rows .entry))) .mv101; mv110 = recordWith (found (now (rows .entry))) .mv110; mv111 = recordWith (found (now (rows .entry))) .mv111 } ⌝ }
-{
-    Vectors {
-        mv000: vector_13(rows[4]),
-        mv001: vector_9(rows[5]),
-        mv010: vector_13(rows[6]),
-        mv011: vector_9(rows[7]),
-        mv100: vector_13(rows[8]),
-        mv101: vector_9(rows[9]),
-        mv110: vector_13(rows[10]),
-        mv111: vector_9(rows[11]),
-    }
-}
-
-fn numbers_of(rows: &[u16; 14]) -> Numbers
-    ensures { λ r. ⌜ r ≡ record { «motion_type» = recordWith (found (now (rows .entry))) .«motion_type»; «num_other_bits» = recordWith (found (now (rows .entry))) .«num_other_bits»; «num_mv_bits» = recordWith (found (now (rows .entry))) .«num_mv_bits»; «q_scale_code» = recordWith (found (now (rows .entry))) .«q_scale_code»; «mb_vert_field_sel» = recordWith (found (now (rows .entry))) .«mb_vert_field_sel»; «num_coef_bits» = recordWith (found (now (rows .entry))) .«num_coef_bits»; «coded_block_pattern» = recordWith (found (now (rows .entry))) .«coded_block_pattern» } ⌝ }
-{
-    Numbers {
-        motion_type: (rows[4] / 2 % 4) as u8,
-        num_other_bits: (rows[5] % 128) as u8,
-        num_mv_bits: (rows[7] / 2 % 64 * 4 + rows[9] % 4) as u8,
-        q_scale_code: (rows[9] / 4 % 32) as u8,
-        mb_vert_field_sel: (rows[11] / 8 % 16) as u8,
-        num_coef_bits: rows[12] / 4,
-        coded_block_pattern: (rows[13] / 256) as u8,
-    }
-}
-
-fn record_of(rows: &[u16; 14]) -> Record
-    ensures { λ r. ⌜ r ≡ recordWith (found (now (rows .entry))) ⌝ }
-{
-    let flags = mb_flags_of(rows);
-    let vectors = vectors_of(rows);
-    let numbers = numbers_of(rows);
-    Record {
-        mb_quant: flags.mb_quant,
-        mb_mfwd: flags.mb_mfwd,
-        mb_mbwd: flags.mb_mbwd,
-        mb_pattern: flags.mb_pattern,
-        mb_intra: flags.mb_intra,
-        dct_type: flags.dct_type,
-        mv000: vectors.mv000,
-        mv001: vectors.mv001,
-        mv010: vectors.mv010,
-        mv011: vectors.mv011,
-        mv100: vectors.mv100,
-        mv101: vectors.mv101,
-        mv110: vectors.mv110,
-        mv111: vectors.mv111,
-        motion_type: numbers.motion_type,
-        skipped_mb: flags.skipped_mb,
-        num_other_bits: numbers.num_other_bits,
-        slice_start_flag: flags.slice_start_flag,
-        num_mv_bits: numbers.num_mv_bits,
-        q_scale_code: numbers.q_scale_code,
-        mb_vert_field_sel: numbers.mb_vert_field_sel,
-        num_coef_bits: numbers.num_coef_bits,
-        coded_block_pattern: numbers.coded_block_pattern,
-    }
-}
-
-pub fn block_of(rows: &[u16; 14]) -> Block
-    ensures { λ r. ⌜ r ≡ blockIn (now (rows .entry)) ⌝ }
-{
-    Block {
-        picture: flags_of(rows),
-        reference: rows[1],
-        element: element_of(rows),
-        record: record_of(rows),
-    }
-}
-
-fn element_of(rows: &[u16; 14]) -> u32
-    ensures { λ r. ⌜ r ≡ found (now (rows .entry)) Element ⌝ }
-{
-    u32::from(rows[2]) * 65536 + u32::from(rows[3])
 }

@@ -1,20 +1,27 @@
-// The data rows of a block.
+// The data rows of a block, from the most significant bit of each.
 ghost use mathlib.Core.Path.{_≡_};
 ghost use mathlib.Core.Bool.{true};
-ghost use Prim.Native.Nat.{ℕ, _+_, _*_, _/_, _%_, _^_, _<_};
+ghost use Prim.Native.Nat.{_+_, _*_, _^_, _<_};
 ghost use Rattle.std.specs.Vec.{made};
 ghost use Rattle.record.specs.Layout.{bit, twos, rowOf, dataRows};
+ghost use Rattle.record.specs.Laws.{RowsFilled, DecodingUndoesEncoding, Samples};
 ghost use Rattle.record.specs.Rules.{fitsSigned, Within, encoded};
 use crate::Block;
 use crate::PictureFlags;
 use crate::Record;
 use crate::check_record;
+use crate::laws::layout_stands;
 use fault::Fault;
 
+// Refuses as `check_record` does. Decoding gives the block back: the rows have the sync code, and all reserved bits 0.
 pub fn data_rows(block: &Block) -> Result<[u16; 14], Fault>
     ensures answer { λ r. ⌜ r ≡ encoded (now (block .entry)) ⌝ }
     ensures element { λ r. ⌜ made r (λ _. now (block .entry) .element < 2 ^ 32) ⌝ }
+    ensures undone { λ _. ⌜ DecodingUndoesEncoding ⌝ }
+    ensures filled { λ _. ⌜ RowsFilled ⌝ }
+    ensures samples { λ _. ⌜ Samples ⌝ }
 {
+    layout_stands();
     check_record(&block.record)?;
     Ok(rows_of(block))
 }
@@ -42,10 +49,11 @@ fn rows_of(block: &Block) -> [u16; 14]
     ]
 }
 
+// The sync code, the picture's flags, and those of the macroblock's type.
 fn row_0(block: &Block) -> u16
     ensures { λ r. ⌜ r ≡ rowOf (now (block .entry)) 0 ⌝ }
 {
-    31 * 2048 + picture_bits(&block.picture) * 64 + macroblock_bits(&block.record)
+    31 * 2048 + picture_bits(&block.picture) * 64 + type_bits(&block.record)
 }
 
 fn picture_bits(flags: &PictureFlags) -> u16
@@ -59,7 +67,7 @@ fn picture_bits(flags: &PictureFlags) -> u16
         + number(flags.q_scale_type)
 }
 
-fn macroblock_bits(record: &Record) -> u16
+fn type_bits(record: &Record) -> u16
     ensures value { λ r. ⌜ r ≡ bit (now («record» .entry) .«mb_quant») * 32 + bit (now («record» .entry) .«mb_mfwd») * 16 + bit (now («record» .entry) .«mb_mbwd») * 8 + bit (now («record» .entry) .«mb_pattern») * 4 + bit (now («record» .entry) .«mb_intra») * 2 + bit (now («record» .entry) .«dct_type») ⌝ }
     ensures small { λ r. ⌜ r < 64 ⌝ }
 {
@@ -71,12 +79,14 @@ fn macroblock_bits(record: &Record) -> u16
         + number(record.dct_type)
 }
 
+// The reference.
 fn row_1(block: &Block) -> u16
     ensures { λ r. ⌜ r ≡ rowOf (now (block .entry)) 1 ⌝ }
 {
     block.reference
 }
 
+// The element, its high half.
 fn row_2(block: &Block) -> u16
     ensures row { λ r. ⌜ r ≡ rowOf (now (block .entry)) 2 ⌝ }
     ensures element { λ _. ⌜ now (block .entry) .element < 2 ^ 32 ⌝ }
@@ -84,12 +94,14 @@ fn row_2(block: &Block) -> u16
     (block.element / 65536) as u16
 }
 
+// The element, its low half.
 fn row_3(block: &Block) -> u16
     ensures { λ r. ⌜ r ≡ rowOf (now (block .entry)) 3 ⌝ }
 {
     (block.element % 65536) as u16
 }
 
+// mv000 13, motion_type 2, skipped_mb 1.
 fn row_4(block: &Block) -> u16
     requires { ⌜ Within (now block .«record») ⌝ }
     ensures { λ r. ⌜ r ≡ rowOf (now (block .entry)) 4 ⌝ }
@@ -98,38 +110,39 @@ fn row_4(block: &Block) -> u16
     bits_13(record.mv000) * 8 + u16::from(record.motion_type) * 2 + number(record.skipped_mb)
 }
 
+// mv001 9, num_other_bits 7.
 fn row_5(block: &Block) -> u16
     requires { ⌜ Within (now block .«record») ⌝ }
     ensures { λ r. ⌜ r ≡ rowOf (now (block .entry)) 5 ⌝ }
 {
-    let record = &block.record;
-    bits_9(record.mv001) * 128 + u16::from(record.num_other_bits)
+    bits_9(block.record.mv001) * 128 + u16::from(block.record.num_other_bits)
 }
 
+// mv010 13, slice_start_flag 1, reserved 2.
 fn row_6(block: &Block) -> u16
     requires { ⌜ Within (now block .«record») ⌝ }
     ensures { λ r. ⌜ r ≡ rowOf (now (block .entry)) 6 ⌝ }
 {
-    let record = &block.record;
-    bits_13(record.mv010) * 8 + number(record.slice_start_flag) * 4
+    bits_13(block.record.mv010) * 8 + number(block.record.slice_start_flag) * 4
 }
 
+// mv011 9, the upper 6 bits of num_mv_bits, reserved 1.
 fn row_7(block: &Block) -> u16
     requires { ⌜ Within (now block .«record») ⌝ }
     ensures { λ r. ⌜ r ≡ rowOf (now (block .entry)) 7 ⌝ }
 {
-    let record = &block.record;
-    bits_9(record.mv011) * 128 + u16::from(record.num_mv_bits / 4) * 2
+    bits_9(block.record.mv011) * 128 + u16::from(block.record.num_mv_bits / 4) * 2
 }
 
+// mv100 13, reserved 3.
 fn row_8(block: &Block) -> u16
     requires { ⌜ Within (now block .«record») ⌝ }
     ensures { λ r. ⌜ r ≡ rowOf (now (block .entry)) 8 ⌝ }
 {
-    let record = &block.record;
-    bits_13(record.mv100) * 8
+    bits_13(block.record.mv100) * 8
 }
 
+// mv101 9, q_scale_code 5, the lower 2 bits of num_mv_bits.
 fn row_9(block: &Block) -> u16
     requires { ⌜ Within (now block .«record») ⌝ }
     ensures { λ r. ⌜ r ≡ rowOf (now (block .entry)) 9 ⌝ }
@@ -140,35 +153,35 @@ fn row_9(block: &Block) -> u16
         + u16::from(record.num_mv_bits % 4)
 }
 
+// mv110 13, reserved 3.
 fn row_10(block: &Block) -> u16
     requires { ⌜ Within (now block .«record») ⌝ }
     ensures { λ r. ⌜ r ≡ rowOf (now (block .entry)) 10 ⌝ }
 {
-    let record = &block.record;
-    bits_13(record.mv110) * 8
+    bits_13(block.record.mv110) * 8
 }
 
+// mv111 9, mb_vert_field_sel 4, reserved 3.
 fn row_11(block: &Block) -> u16
     requires { ⌜ Within (now block .«record») ⌝ }
     ensures { λ r. ⌜ r ≡ rowOf (now (block .entry)) 11 ⌝ }
 {
-    let record = &block.record;
-    bits_9(record.mv111) * 128 + u16::from(record.mb_vert_field_sel) * 8
+    bits_9(block.record.mv111) * 128 + u16::from(block.record.mb_vert_field_sel) * 8
 }
 
+// num_coef_bits 14, reserved 2.
 fn row_12(block: &Block) -> u16
     requires { ⌜ Within (now block .«record») ⌝ }
     ensures { λ r. ⌜ r ≡ rowOf (now (block .entry)) 12 ⌝ }
 {
-    let record = &block.record;
-    record.num_coef_bits * 4
+    block.record.num_coef_bits * 4
 }
 
+// coded_block_pattern 8, reserved 8.
 fn row_13(block: &Block) -> u16
     ensures { λ r. ⌜ r ≡ rowOf (now (block .entry)) 13 ⌝ }
 {
-    let record = &block.record;
-    u16::from(record.coded_block_pattern) * 256
+    u16::from(block.record.coded_block_pattern) * 256
 }
 
 fn number(flag: bool) -> u16
@@ -178,6 +191,7 @@ fn number(flag: bool) -> u16
     u16::from(flag)
 }
 
+// A horizontal component in two's complement of 13 bits.
 fn bits_13(x: i16) -> u16
     requires { ⌜ fitsSigned 13 x ≡ true ⌝ }
     ensures value { λ r. ⌜ r ≡ twos 13 x ⌝ }
@@ -186,6 +200,7 @@ fn bits_13(x: i16) -> u16
     if x < 0 { (x + 8192) as u16 } else { x as u16 }
 }
 
+// A vertical component in two's complement of 9 bits.
 fn bits_9(x: i16) -> u16
     requires { ⌜ fitsSigned 9 x ≡ true ⌝ }
     ensures value { λ r. ⌜ r ≡ twos 9 x ⌝ }

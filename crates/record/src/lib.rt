@@ -1,7 +1,9 @@
 // A macroblock's record, the block that carries it, and the block's data rows.
 mod decode;
 mod encode;
+mod laws;
 mod record;
+mod rules;
 
 pub use decode::block_of;
 pub use decode::has_sync;
@@ -16,4 +18,4 @@ pub use record::PictureFlagsPartialEq;
 pub use record::Record;
 pub use record::RecordEq;
 pub use record::RecordPartialEq;
-pub use record::check_record;
+pub use rules::check_record;

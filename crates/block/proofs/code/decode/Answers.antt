@@ -10,7 +10,7 @@ use Rattle.std.proofs.shelf.Ways.{decides-at}
 use Rattle.fault.specs.declared.Fault.{Fault}
 use Rattle.check.specs.Burst.{Rows}
 use Rattle.record.specs.declared.record.Block.{Block}
-use Rattle.block.specs.Code.{encoded, decoded, blockOf, WellFormed, NoneNear, OnlyThese}
+use Rattle.block.specs.Code.{encoded, decoded, blockIn, WellFormed, NoneNear, OnlyThese}
 use Rattle.block.proofs.Codes.{accepts, accepted-if-formed, encoded-back, none-near, only-these, of-accepted}
 use Rattle.block.proofs.code.decode.Needs as need
 
