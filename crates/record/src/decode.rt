@@ -1,9 +1,10 @@
 // What the data rows of a block spell, and whether they are well-formed.
 ghost use mathlib.Core.Path.{_≡_};
+ghost use mathlib.Core.Bool.{true};
 ghost use Prim.Native.Nat.{_/_, _%_};
 ghost use Rattle.record.specs.Components.{flagsOf, vectorsOf, numbersOf};
-ghost use Rattle.record.specs.Layout.{layout, Sync, Reference, Element, isOne, signed, flagsWith, recordWith, found, blockOf, hasSync, clearFrom, reservedClear};
-ghost use Rattle.record.specs.Laws.{EncodingUndoesDecoding, SpeltOnce};
+ghost use Rattle.record.specs.Layout.{layout, Sync, Reference, Element, isOne, signed, flagsWith, recordWith, found, dataRows, blockOf, hasSync, clearFrom, reservedClear};
+ghost use Rattle.record.specs.Laws.{Fitting, EncodingUndoesDecoding, SpeltOnce};
 use crate::Block;
 use crate::PictureFlags;
 use crate::Record;
@@ -45,6 +46,8 @@ fn ends_clear(rows: &[u16; 14]) -> bool
 // The block that the rows spell, whatever their sync code and reserved bits are. Encoding it gives well-formed rows back.
 pub fn block_of(rows: &[u16; 14]) -> Block
     ensures answer { λ r. ⌜ r ≡ blockOf (now (rows .entry)) ⌝ }
+    ensures fitting { λ r. ⌜ Fitting r ⌝ }
+    ensures back { λ r. ⌜ (hasSync (now (rows .entry)) ≡ true → reservedClear (now (rows .entry)) ≡ true → dataRows r ≡ now (rows .entry)) ⌝ }
     ensures redone { λ _. ⌜ EncodingUndoesDecoding ⌝ }
     ensures once { λ _. ⌜ SpeltOnce ⌝ }
 {
@@ -53,7 +56,9 @@ pub fn block_of(rows: &[u16; 14]) -> Block
 }
 
 fn spelt(rows: &[u16; 14]) -> Block
-    ensures { λ r. ⌜ r ≡ blockOf (now (rows .entry)) ⌝ }
+    ensures value { λ r. ⌜ r ≡ blockOf (now (rows .entry)) ⌝ }
+    ensures fitting { λ r. ⌜ Fitting r ⌝ }
+    ensures back { λ r. ⌜ (hasSync (now (rows .entry)) ≡ true → reservedClear (now (rows .entry)) ≡ true → dataRows r ≡ now (rows .entry)) ⌝ }
 {
     Block {
         picture: picture_of(rows),

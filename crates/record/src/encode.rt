@@ -1,9 +1,10 @@
 // The data rows of a block, from the most significant bit of each.
 ghost use mathlib.Core.Path.{_≡_};
 ghost use mathlib.Core.Bool.{true};
-ghost use Prim.Native.Nat.{_+_, _*_, _<_};
-ghost use Rattle.record.specs.Layout.{bit, twos, rowOf, dataRows};
-ghost use Rattle.record.specs.Laws.{RowsFilled, DecodingUndoesEncoding, Samples};
+ghost use Prim.Native.Nat.{_+_, _*_, _^_, _<_};
+ghost use Rattle.std.specs.Vec.{made};
+ghost use Rattle.record.specs.Layout.{bit, twos, rowOf, dataRows, blockOf};
+ghost use Rattle.record.specs.Laws.{Formed, RowsFilled, DecodingUndoesEncoding, Samples};
 ghost use Rattle.record.specs.Rules.{fitsSigned, Within, encoded};
 use crate::Block;
 use crate::PictureFlags;
@@ -15,6 +16,8 @@ use fault::Fault;
 // Refuses as `check_record` does. Decoding gives the block back: the rows have the sync code, and all reserved bits 0.
 pub fn data_rows(block: &Block) -> Result<[u16; 14], Fault>
     ensures answer { λ r. ⌜ r ≡ encoded (now (block .entry)) ⌝ }
+    ensures formed { λ r. ⌜ made r Formed ⌝ }
+    ensures back { λ r. ⌜ made r (λ rows. blockOf rows ≡ now (block .entry)) ⌝ }
     ensures undone { λ _. ⌜ DecodingUndoesEncoding ⌝ }
     ensures filled { λ _. ⌜ RowsFilled ⌝ }
     ensures samples { λ _. ⌜ Samples ⌝ }
@@ -26,7 +29,9 @@ pub fn data_rows(block: &Block) -> Result<[u16; 14], Fault>
 
 fn rows_of(block: &Block) -> [u16; 14]
     requires { ⌜ Within (now block .«record») ⌝ }
-    ensures { λ r. ⌜ r ≡ dataRows (now (block .entry)) ⌝ }
+    ensures value { λ r. ⌜ r ≡ dataRows (now (block .entry)) ⌝ }
+    ensures formed { λ r. ⌜ Formed r ⌝ }
+    ensures back { λ r. ⌜ blockOf r ≡ now (block .entry) ⌝ }
 {
     [
         row_0(block),
@@ -83,9 +88,10 @@ fn row_1(block: &Block) -> u16
     block.reference
 }
 
-// The element, its high half.
+// The element, its high half. That the element has 32 bits is said here, where it is read.
 fn row_2(block: &Block) -> u16
-    ensures { λ r. ⌜ r ≡ rowOf (now (block .entry)) 2 ⌝ }
+    ensures value { λ r. ⌜ r ≡ rowOf (now (block .entry)) 2 ⌝ }
+    ensures narrow { λ _. ⌜ now (block .entry) .element < 2 ^ 32 ⌝ }
 {
     (block.element / 65536) as u16
 }
