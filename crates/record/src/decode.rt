@@ -1,25 +1,28 @@
 // What the data rows of a block spell, and whether they are well-formed.
 ghost use mathlib.Core.Path.{_≡_};
+ghost use mathlib.Core.Bool.{true};
 ghost use Prim.Native.Nat.{_/_, _%_};
+ghost use lib.Dec.{eqb};
 ghost use Rattle.record.specs.Components.{flagsOf, vectorsOf, numbersOf};
-ghost use Rattle.record.specs.Layout.{layout, Sync, Reference, Element, isOne, signed, flagsWith, recordWith, found, blockOf, hasSync, clearFrom, reservedClear};
-ghost use Rattle.record.specs.Laws.{EncodingUndoesDecoding, SpeltOnce};
+ghost use Rattle.record.specs.Layout.{layout, Sync, Reference, Element, syncCode, isOne, signed, flagsWith, recordWith, found, dataRows, blockOf, hasSync, clearFrom, reservedClear};
+ghost use Rattle.record.specs.Laws.{Fitting, EncodingUndoesDecoding, SpeltOnce};
 use crate::Block;
 use crate::PictureFlags;
 use crate::Record;
+use crate::SYNC_CODE;
 use crate::laws::layout_stands;
 
 // Whether the rows begin with the sync code.
 pub fn has_sync(rows: &[u16; 14]) -> bool
     ensures { λ r. ⌜ r ≡ hasSync (now (rows .entry)) ⌝ }
 {
-    sync_of(rows) == 31
+    begins_with_sync(rows)
 }
 
-fn sync_of(rows: &[u16; 14]) -> u16
-    ensures { λ r. ⌜ r ≡ found (now (rows .entry)) Sync ⌝ }
+fn begins_with_sync(rows: &[u16; 14]) -> bool
+    ensures { λ r. ⌜ r ≡ eqb (found (now (rows .entry)) Sync) syncCode ⌝ }
 {
-    rows[0] / 2048
+    rows[0] / 2048 == SYNC_CODE
 }
 
 // Whether all reserved bits are 0.
@@ -42,9 +45,12 @@ fn ends_clear(rows: &[u16; 14]) -> bool
         && rows[13] % 256 == 0
 }
 
-// The block that the rows spell, whatever their sync code and reserved bits are. Encoding it gives well-formed rows back.
+// The block that the rows spell, whatever their sync code and reserved bits are. It always fits the widths, and its data rows are
+// these rows if they are well-formed.
 pub fn block_of(rows: &[u16; 14]) -> Block
     ensures answer { λ r. ⌜ r ≡ blockOf (now (rows .entry)) ⌝ }
+    ensures fitting { λ r. ⌜ Fitting r ⌝ }
+    ensures back { λ r. ⌜ (hasSync (now (rows .entry)) ≡ true → reservedClear (now (rows .entry)) ≡ true → dataRows r ≡ now (rows .entry)) ⌝ }
     ensures redone { λ _. ⌜ EncodingUndoesDecoding ⌝ }
     ensures once { λ _. ⌜ SpeltOnce ⌝ }
 {
@@ -53,7 +59,9 @@ pub fn block_of(rows: &[u16; 14]) -> Block
 }
 
 fn spelt(rows: &[u16; 14]) -> Block
-    ensures { λ r. ⌜ r ≡ blockOf (now (rows .entry)) ⌝ }
+    ensures value { λ r. ⌜ r ≡ blockOf (now (rows .entry)) ⌝ }
+    ensures fitting { λ r. ⌜ Fitting r ⌝ }
+    ensures back { λ r. ⌜ (hasSync (now (rows .entry)) ≡ true → reservedClear (now (rows .entry)) ≡ true → dataRows r ≡ now (rows .entry)) ⌝ }
 {
     Block {
         picture: picture_of(rows),

@@ -1,22 +1,24 @@
-// The data rows of a block, from the most significant bit of each.
+// The data rows of a block: a function for each, filled from the most significant bit.
 ghost use mathlib.Core.Path.{_≡_};
 ghost use mathlib.Core.Bool.{true};
 ghost use Prim.Native.Nat.{_+_, _*_, _^_, _<_};
 ghost use Rattle.std.specs.Vec.{made};
-ghost use Rattle.record.specs.Layout.{bit, twos, rowOf, dataRows};
-ghost use Rattle.record.specs.Laws.{RowsFilled, DecodingUndoesEncoding, Samples};
+ghost use Rattle.record.specs.Layout.{bit, twos, rowOf, dataRows, blockOf};
+ghost use Rattle.record.specs.Laws.{Formed, RowsFilled, DecodingUndoesEncoding, Samples};
 ghost use Rattle.record.specs.Rules.{fitsSigned, Within, encoded};
 use crate::Block;
 use crate::PictureFlags;
 use crate::Record;
+use crate::SYNC_CODE;
 use crate::check_record;
 use crate::laws::layout_stands;
 use fault::Fault;
 
-// Refuses as `check_record` does. Decoding gives the block back: the rows have the sync code, and all reserved bits 0.
+// The data rows, well-formed and spelling the block. Refuses as `check_record` does.
 pub fn data_rows(block: &Block) -> Result<[u16; 14], Fault>
     ensures answer { λ r. ⌜ r ≡ encoded (now (block .entry)) ⌝ }
-    ensures element { λ r. ⌜ made r (λ _. now (block .entry) .element < 2 ^ 32) ⌝ }
+    ensures formed { λ r. ⌜ made r Formed ⌝ }
+    ensures back { λ r. ⌜ made r (λ rows. blockOf rows ≡ now (block .entry)) ⌝ }
     ensures undone { λ _. ⌜ DecodingUndoesEncoding ⌝ }
     ensures filled { λ _. ⌜ RowsFilled ⌝ }
     ensures samples { λ _. ⌜ Samples ⌝ }
@@ -28,8 +30,9 @@ pub fn data_rows(block: &Block) -> Result<[u16; 14], Fault>
 
 fn rows_of(block: &Block) -> [u16; 14]
     requires { ⌜ Within (now block .«record») ⌝ }
-    ensures rows { λ r. ⌜ r ≡ dataRows (now (block .entry)) ⌝ }
-    ensures element { λ _. ⌜ now (block .entry) .element < 2 ^ 32 ⌝ }
+    ensures value { λ r. ⌜ r ≡ dataRows (now (block .entry)) ⌝ }
+    ensures formed { λ r. ⌜ Formed r ⌝ }
+    ensures back { λ r. ⌜ blockOf r ≡ now (block .entry) ⌝ }
 {
     [
         row_0(block),
@@ -49,11 +52,11 @@ fn rows_of(block: &Block) -> [u16; 14]
     ]
 }
 
-// The sync code, the picture's flags, and those of the macroblock's type.
+// Row 0: sync 5, the picture's flags 5, the flags of the macroblock's type 6.
 fn row_0(block: &Block) -> u16
     ensures { λ r. ⌜ r ≡ rowOf (now (block .entry)) 0 ⌝ }
 {
-    31 * 2048 + picture_bits(&block.picture) * 64 + type_bits(&block.record)
+    SYNC_CODE * 2048 + picture_bits(&block.picture) * 64 + type_bits(&block.record)
 }
 
 fn picture_bits(flags: &PictureFlags) -> u16
@@ -79,29 +82,29 @@ fn type_bits(record: &Record) -> u16
         + number(record.dct_type)
 }
 
-// The reference.
+// Row 1: reference 16.
 fn row_1(block: &Block) -> u16
     ensures { λ r. ⌜ r ≡ rowOf (now (block .entry)) 1 ⌝ }
 {
     block.reference
 }
 
-// The element, its high half.
+// Row 2: the upper 16 bits of element. That element has no more than 32 is said here, where it is read.
 fn row_2(block: &Block) -> u16
-    ensures row { λ r. ⌜ r ≡ rowOf (now (block .entry)) 2 ⌝ }
-    ensures element { λ _. ⌜ now (block .entry) .element < 2 ^ 32 ⌝ }
+    ensures value { λ r. ⌜ r ≡ rowOf (now (block .entry)) 2 ⌝ }
+    ensures narrow { λ _. ⌜ now (block .entry) .element < 2 ^ 32 ⌝ }
 {
     (block.element / 65536) as u16
 }
 
-// The element, its low half.
+// Row 3: the lower 16 bits of element.
 fn row_3(block: &Block) -> u16
     ensures { λ r. ⌜ r ≡ rowOf (now (block .entry)) 3 ⌝ }
 {
     (block.element % 65536) as u16
 }
 
-// mv000 13, motion_type 2, skipped_mb 1.
+// Row 4: mv000 13, motion_type 2, skipped_mb 1.
 fn row_4(block: &Block) -> u16
     requires { ⌜ Within (now block .«record») ⌝ }
     ensures { λ r. ⌜ r ≡ rowOf (now (block .entry)) 4 ⌝ }
@@ -110,7 +113,7 @@ fn row_4(block: &Block) -> u16
     bits_13(record.mv000) * 8 + u16::from(record.motion_type) * 2 + number(record.skipped_mb)
 }
 
-// mv001 9, num_other_bits 7.
+// Row 5: mv001 9, num_other_bits 7.
 fn row_5(block: &Block) -> u16
     requires { ⌜ Within (now block .«record») ⌝ }
     ensures { λ r. ⌜ r ≡ rowOf (now (block .entry)) 5 ⌝ }
@@ -118,7 +121,7 @@ fn row_5(block: &Block) -> u16
     bits_9(block.record.mv001) * 128 + u16::from(block.record.num_other_bits)
 }
 
-// mv010 13, slice_start_flag 1, reserved 2.
+// Row 6: mv010 13, slice_start_flag 1, reserved 2.
 fn row_6(block: &Block) -> u16
     requires { ⌜ Within (now block .«record») ⌝ }
     ensures { λ r. ⌜ r ≡ rowOf (now (block .entry)) 6 ⌝ }
@@ -126,7 +129,7 @@ fn row_6(block: &Block) -> u16
     bits_13(block.record.mv010) * 8 + number(block.record.slice_start_flag) * 4
 }
 
-// mv011 9, the upper 6 bits of num_mv_bits, reserved 1.
+// Row 7: mv011 9, the upper 6 bits of num_mv_bits, reserved 1.
 fn row_7(block: &Block) -> u16
     requires { ⌜ Within (now block .«record») ⌝ }
     ensures { λ r. ⌜ r ≡ rowOf (now (block .entry)) 7 ⌝ }
@@ -134,7 +137,7 @@ fn row_7(block: &Block) -> u16
     bits_9(block.record.mv011) * 128 + u16::from(block.record.num_mv_bits / 4) * 2
 }
 
-// mv100 13, reserved 3.
+// Row 8: mv100 13, reserved 3.
 fn row_8(block: &Block) -> u16
     requires { ⌜ Within (now block .«record») ⌝ }
     ensures { λ r. ⌜ r ≡ rowOf (now (block .entry)) 8 ⌝ }
@@ -142,7 +145,7 @@ fn row_8(block: &Block) -> u16
     bits_13(block.record.mv100) * 8
 }
 
-// mv101 9, q_scale_code 5, the lower 2 bits of num_mv_bits.
+// Row 9: mv101 9, q_scale_code 5, the lower 2 bits of num_mv_bits.
 fn row_9(block: &Block) -> u16
     requires { ⌜ Within (now block .«record») ⌝ }
     ensures { λ r. ⌜ r ≡ rowOf (now (block .entry)) 9 ⌝ }
@@ -153,7 +156,7 @@ fn row_9(block: &Block) -> u16
         + u16::from(record.num_mv_bits % 4)
 }
 
-// mv110 13, reserved 3.
+// Row 10: mv110 13, reserved 3.
 fn row_10(block: &Block) -> u16
     requires { ⌜ Within (now block .«record») ⌝ }
     ensures { λ r. ⌜ r ≡ rowOf (now (block .entry)) 10 ⌝ }
@@ -161,7 +164,7 @@ fn row_10(block: &Block) -> u16
     bits_13(block.record.mv110) * 8
 }
 
-// mv111 9, mb_vert_field_sel 4, reserved 3.
+// Row 11: mv111 9, mb_vert_field_sel 4, reserved 3.
 fn row_11(block: &Block) -> u16
     requires { ⌜ Within (now block .«record») ⌝ }
     ensures { λ r. ⌜ r ≡ rowOf (now (block .entry)) 11 ⌝ }
@@ -169,7 +172,7 @@ fn row_11(block: &Block) -> u16
     bits_9(block.record.mv111) * 128 + u16::from(block.record.mb_vert_field_sel) * 8
 }
 
-// num_coef_bits 14, reserved 2.
+// Row 12: num_coef_bits 14, reserved 2.
 fn row_12(block: &Block) -> u16
     requires { ⌜ Within (now block .«record») ⌝ }
     ensures { λ r. ⌜ r ≡ rowOf (now (block .entry)) 12 ⌝ }
@@ -177,7 +180,7 @@ fn row_12(block: &Block) -> u16
     block.record.num_coef_bits * 4
 }
 
-// coded_block_pattern 8, reserved 8.
+// Row 13: coded_block_pattern 8, reserved 8.
 fn row_13(block: &Block) -> u16
     ensures { λ r. ⌜ r ≡ rowOf (now (block .entry)) 13 ⌝ }
 {

@@ -19,3 +19,6 @@ pub use record::Record;
 pub use record::RecordEq;
 pub use record::RecordPartialEq;
 pub use rules::check_record;
+
+// The sync code, with which every block begins: five ones.
+const SYNC_CODE: u16 = 31;

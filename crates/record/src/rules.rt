@@ -1,12 +1,16 @@
 // What a record keeps to be sent: the widths of its components, and two rules.
 ghost use mathlib.Core.Path.{_≡_};
-ghost use Rattle.record.specs.Rules.{fitsSigned, horizontalsFit, verticalsFit, countsFit, codesFit, fitsWidths, intraKept, skippedKept, keepsRules, checked};
+ghost use mathlib.Core.Bool.{_&&_};
+ghost use Rattle.std.specs.Orderings.{Decides};
+ghost use Rattle.std.specs.Vec.{made};
+ghost use Rattle.record.specs.Rules.{fitsSigned, horizontalsFit, verticalsFit, countsFit, codesFit, fitsWidths, Within, intraKept, skippedKept, keepsRules, checked};
 use crate::Record;
 use fault::Fault;
 
 // Refuses a record with a component that does not fit its width, then one that breaks a rule.
 pub fn check_record(record: &Record) -> Result<(), Fault>
-    ensures { λ r. ⌜ r ≡ checked (now («record» .entry)) ⌝ }
+    ensures answer { λ r. ⌜ r ≡ checked (now («record» .entry)) ⌝ }
+    ensures within { λ r. ⌜ made r (λ _. Within (now («record» .entry))) ⌝ }
 {
     if !record.fits_widths() {
         return Err(Fault::ComponentWidth);
@@ -20,7 +24,14 @@ pub fn check_record(record: &Record) -> Result<(), Fault>
 impl Record {
     // Whether every component fits its width.
     pub fn fits_widths(&self) -> bool
-        ensures { λ r. ⌜ r ≡ fitsWidths (now (self .entry)) ⌝ }
+        ensures answer { λ r. ⌜ r ≡ fitsWidths (now (self .entry)) ⌝ }
+        ensures within { λ r. ⌜ Decides r (Within (now (self .entry))) ⌝ }
+    {
+        self.all_fit()
+    }
+
+    fn all_fit(&self) -> bool
+        ensures { λ r. ⌜ r ≡ (horizontalsFit (now (self .entry)) && verticalsFit (now (self .entry)) && countsFit (now (self .entry)) && codesFit (now (self .entry))) ⌝ }
     {
         self.horizontals_fit() && self.verticals_fit() && self.counts_fit() && self.codes_fit()
     }
@@ -55,6 +66,12 @@ impl Record {
     // Whether the record keeps the rules on mb_intra and skipped_mb.
     pub fn keeps_rules(&self) -> bool
         ensures { λ r. ⌜ r ≡ keepsRules (now (self .entry)) ⌝ }
+    {
+        self.all_kept()
+    }
+
+    fn all_kept(&self) -> bool
+        ensures { λ r. ⌜ r ≡ (intraKept (now (self .entry)) && skippedKept (now (self .entry))) ⌝ }
     {
         self.intra_kept() && self.skipped_kept()
     }
