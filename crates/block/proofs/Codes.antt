@@ -25,8 +25,8 @@ use Rattle.check.proofs.Laws.{first-rows, checked-from-fits}
 use Rattle.record.specs.declared.record.Block.{Block}
 use Rattle.record.specs.Layout.{dataRows, blockOf, hasSync, reservedClear}
 use Rattle.record.specs.Rules.{fitsWidths, keepsRules, checked}
-use Rattle.record.specs.Laws.{Fitting, Formed}
-use Rattle.record.proofs.Undoing.{decoding-undoes, encoding-undoes}
+use Rattle.record.specs.Laws.{Formed}
+use Rattle.record.proofs.Undoing.{encoding-undoes}
 use Rattle.block.specs.Code.{refuse, then, rowsOf, encoded, blockIn, decoded, WellFormed, NoneNear, OnlyThese}
 
 -- a test that refuses was passed
@@ -88,18 +88,17 @@ encoded-back rows k w =
     ap (λ r. then r (λ _. Ok (rowsOf (blockIn rows)))) (checked-kept (blockIn rows) (u .0 .widths) (w .rules)) ∙ ap (λ d. Ok (withCheck d)) (u .1) ∙ ap Ok (sym e)
 
 -- decoding undoes encoding
-module _ (b : Block) (f : Fitting b) (k : keepsRules (b .«record») ≡ true) (h : b .reference ≤ 65520) where
+module _ (b : Block) (f : Formed (dataRows b)) (u : blockOf (dataRows b) ≡ b) (k : keepsRules (b .«record») ≡ true) (h : b .reference ≤ 65520) where
   pub decoded-back : decoded (rowsOf b) ≡ Ok b
   decoded-back =
-      let u = decoding-undoes b f in
-      let n : length (dataRows b) ≡ 14 = u .0 .count in
+      let n : length (dataRows b) ≡ 14 = f .count in
       let t : take 14 (rowsOf b) ≡ dataRows b = ap (λ m. take m (rowsOf b)) (sym n) ∙ take-append-seam (dataRows b) _ in
-      let c = checked-fits (dataRows b) (record { long = n; narrow = λ i hi. all-getD (λ row. row < 2 ^ 16) (dataRows b) i 0 (omega arith) (u .0 .narrow) }) in
-      let is : blockIn (rowsOf b) ≡ b = ap blockOf t ∙ u .1 in
+      let c = checked-fits (dataRows b) (record { long = n; narrow = λ i hi. all-getD (λ row. row < 2 ^ 16) (dataRows b) i 0 (omega arith) (f .narrow) }) in
+      let is : blockIn (rowsOf b) ≡ b = ap blockOf t ∙ u in
       accepted-if-formed (rowsOf b) (record {
-        sync = ap hasSync t ∙ u .0 .sync;
+        sync = ap hasSync t ∙ f .sync;
         check = c .1;
-        reserved = ap reservedClear t ∙ u .0 .reserved;
+        reserved = ap reservedClear t ∙ f .reserved;
         reference = subst (λ x. x .reference ≤ 65520) (sym is) h;
         rules = ap (λ x. keepsRules (x .«record»)) is ∙ k;
       })
@@ -133,10 +132,10 @@ checked-if-encoded : (b : Block) (rows : List ℕ) → Ok rows ≡ encoded b →
 checked-if-encoded b rows e = grind (arith, tells)
 
 -- what is encoded fits and keeps the rules
-pub of-encoded : (b : Block) (r : Result (List ℕ) Fault) → r ≡ encoded b → made r (λ _. b .element < 2 ^ 32) → b .reference ≤ 65520 → made r (λ rows. decoded rows ≡ Ok b)
+pub of-encoded : (b : Block) (r : Result (List ℕ) Fault) → r ≡ encoded b → made r (λ _. Formed (dataRows b) × (blockOf (dataRows b) ≡ b)) → b .reference ≤ 65520 → made r (λ rows. decoded rows ≡ Ok b)
 of-encoded b (Err fault) e h n = tt
 of-encoded b (Ok rows) e h n =
     let k : checked (b .«record») ≡ Ok tt = checked-if-encoded b rows e in
     let p = checked-ok b k in
     let same : rows ≡ rowsOf b = cc (e, ap (λ x. then x (λ _. Ok (rowsOf b))) k) in
-    rw same (decoded-back b (record { widths = p .0; reference = omega arith; element = h }) (p .1) n)
+    rw same (decoded-back b (h .0) (h .1) (p .1) n)

@@ -2,12 +2,14 @@
 ghost use mathlib.Core.Path.{_≡_};
 ghost use mathlib.Core.List.{List};
 ghost use mathlib.Core.Bool.{true};
-ghost use Prim.Native.Nat.{ℕ, _^_, _<_, _≤_};
+ghost use Prim.Native.Nat.{_≤_};
 ghost use lib.ListN.{take};
 ghost use Rattle.std.specs.Orderings.{Decides};
 ghost use Rattle.std.specs.Results.{isOk};
 ghost use Rattle.std.specs.Vec.{made};
 ghost use Rattle.std.specs.declared.result.Result.the-variants.{Ok};
+ghost use Rattle.record.specs.Layout.{dataRows, blockOf};
+ghost use Rattle.record.specs.Laws.{Formed};
 ghost use Rattle.block.specs.Code.{encoded, decoded, WellFormed, NoneNear, OnlyThese};
 use check::fits;
 use check::with_check;
@@ -42,7 +44,7 @@ pub fn decode(rows: &[u16; 16]) -> Result<Block, Fault>
 
 fn rows_of(block: &Block) -> Result<[u16; 16], Fault>
     ensures answer { λ r. ⌜ r ≡ encoded (now (block .entry)) ⌝ }
-    ensures element { λ r. ⌜ made r (λ _. now (block .entry) .element < 2 ^ 32) ⌝ }
+    ensures spelt { λ r. ⌜ made r (λ _. Formed (dataRows (now (block .entry))) × (blockOf (dataRows (now (block .entry))) ≡ now (block .entry))) ⌝ }
 {
     let data = data_rows(block)?;
     Ok(with_check(&data))

@@ -4,5 +4,5 @@ use Rattle.block.proofs.code.encode.Needs as need
 pub returns : need.returns
 returns c = record {
   answer = c .rows-of .ensures .answer;
-  back = of-encoded (c .args .block .now) (c .rows-of .result) (c .rows-of .ensures .answer) (c .rows-of .ensures .element);
+  back = of-encoded (c .args .block .now) (c .rows-of .result) (c .rows-of .ensures .answer) (c .rows-of .ensures .spelt);
 }
