@@ -19,7 +19,8 @@ use Rattle.std.specs.shelf.Lists.{All}
 use Rattle.std.specs.declared.result.Result.{Result}
 use Rattle.std.specs.declared.result.Result.the-variants.{Ok, Err}
 use Rattle.fault.specs.declared.Fault.{Fault}
-use Rattle.check.specs.Burst.{Rows, AlikeBut, Alone, Fits, fitting, withCheck}
+use Rattle.fault.specs.declared.Fault.the-variants.{ReferenceRange}
+use Rattle.check.specs.Burst.{Rows, AlikeBut, Alone, CheckFits, checkFits, withCheck}
 use Rattle.check.proofs.Bursts.{fitting-decides, burst-never-passes, checked-fits}
 use Rattle.check.proofs.Laws.{first-rows, checked-from-fits}
 use Rattle.record.specs.declared.record.Block.{Block}
@@ -43,7 +44,7 @@ module _ (rows : List ℕ) where
   formed-if-accepted : isOk (decoded rows) ≡ true → WellFormed rows
   formed-if-accepted e =
       let s = passed (not (hasSync (take 14 rows))) _ _ e in
-      let c = passed (not (fitting rows)) _ _ (s .1) in
+      let c = passed (not (checkFits rows)) _ _ (s .1) in
       let r = passed (not (reservedClear (take 14 rows))) _ _ (c .1) in
       let n = passed (ltb 65520 (blockIn rows .reference)) _ _ (r .1) in
       let k = passed (not (keepsRules (blockIn rows .«record»))) _ _ (n .1) in
@@ -57,7 +58,7 @@ module _ (rows : List ℕ) where
 
   pub accepted-if-formed : WellFormed rows → decoded rows ≡ Ok (blockIn rows)
   accepted-if-formed w =
-      let f : fitting rows ≡ true = fitting-decides rows .1 (w .check) in
+      let f : checkFits rows ≡ true = fitting-decides rows .1 (w .check) in
       let n : ltb 65520 (blockIn rows .reference) ≡ false = let h = w .reference in grind (arith, tells) in
       rw (w .sync, f, w .reserved, n, w .rules)
 
@@ -87,31 +88,53 @@ encoded-back rows k w =
     let e = checked-from-fits rows k (w .check) in
     ap (λ r. then r (λ _. Ok (rowsOf (blockIn rows)))) (checked-kept (blockIn rows) (u .0 .widths) (w .rules)) ∙ ap (λ d. Ok (withCheck d)) (u .1) ∙ ap Ok (sym e)
 
--- decoding undoes encoding
-module _ (b : Block) (f : Formed (dataRows b)) (u : blockOf (dataRows b) ≡ b) (k : keepsRules (b .«record») ≡ true) (h : b .reference ≤ 65520) where
-  pub decoded-back : decoded (rowsOf b) ≡ Ok b
-  decoded-back =
-      let n : length (dataRows b) ≡ 14 = f .count in
-      let t : take 14 (rowsOf b) ≡ dataRows b = ap (λ m. take m (rowsOf b)) (sym n) ∙ take-append-seam (dataRows b) _ in
-      let c = checked-fits (dataRows b) (record { long = n; narrow = λ i hi. all-getD (λ row. row < 2 ^ 16) (dataRows b) i 0 (omega arith) (f .narrow) }) in
-      let is : blockIn (rowsOf b) ≡ b = ap blockOf t ∙ u in
-      accepted-if-formed (rowsOf b) (record {
-        sync = ap hasSync t ∙ f .sync;
-        check = c .1;
-        reserved = ap reservedClear t ∙ f .reserved;
-        reference = subst (λ x. x .reference ≤ 65520) (sym is) h;
-        rules = ap (λ x. keepsRules (x .«record»)) is ∙ k;
-      })
-      ∙ ap Ok is
+-- decoding what was encoded
+module _ (b : Block) (f : Formed (dataRows b)) (u : blockOf (dataRows b) ≡ b) (k : keepsRules (b .«record») ≡ true) where
+  long : length (dataRows b) ≡ 14
+  long = f .count
+
+  data-back : take 14 (rowsOf b) ≡ dataRows b
+  data-back = ap (λ m. take m (rowsOf b)) (sym long) ∙ take-append-seam (dataRows b) _
+
+  whole : Rows 16 (rowsOf b) × CheckFits (rowsOf b)
+  whole = checked-fits (dataRows b) (record { long = long; narrow = λ i hi. all-getD (λ row. row < 2 ^ 16) (dataRows b) i 0 (omega (arith, long)) (f .narrow) })
+
+  block-back : blockIn (rowsOf b) ≡ b
+  block-back = ap blockOf data-back ∙ u
+
+  well-formed : b .reference ≤ 65520 → WellFormed (rowsOf b)
+  well-formed h = record {
+      sync = ap hasSync data-back ∙ f .sync;
+      check = whole .1;
+      reserved = ap reservedClear data-back ∙ f .reserved;
+      reference = subst (λ x. x .reference ≤ 65520) (sym block-back) h;
+      rules = ap (λ x. keepsRules (x .«record»)) block-back ∙ k
+    }
+
+  pub decoded-back : b .reference ≤ 65520 → decoded (rowsOf b) ≡ Ok b
+  decoded-back h = accepted-if-formed (rowsOf b) (well-formed h) ∙ ap Ok block-back
+
+  pub decoded-above : 65520 < b .reference → decoded (rowsOf b) ≡ Err ReferenceRange
+  decoded-above h =
+      let s : hasSync (take 14 (rowsOf b)) ≡ true = ap hasSync data-back ∙ f .sync in
+      let c : checkFits (rowsOf b) ≡ true = fitting-decides (rowsOf b) .1 (whole .1) in
+      let r : reservedClear (take 14 (rowsOf b)) ≡ true = ap reservedClear data-back ∙ f .reserved in
+      let e : blockIn (rowsOf b) .reference ≡ b .reference = ap (λ x. x .reference) block-back in
+      let n : ltb 65520 (blockIn (rowsOf b) .reference) ≡ true = grind (arith, tells) in
+      rw (s, c, r, n)
+
+-- rows near those that fit are refused
+near : (rows : List ℕ) → Rows 16 rows → CheckFits rows → NoneNear rows
+near rows k c others n ko hn a d =
+    elim (cases-bool (isOk (decoded others))) [
+      inl t ↦ absurd (burst-never-passes rows k c others n ko hn a d (accepts others .0 t .check))
+    | inr f ↦ f
+    ]
 
 -- the burst law, and that no other rows spell the block
 module _ (rows : List ℕ) (k : Rows 16 rows) (w : WellFormed rows) where
   pub none-near : NoneNear rows
-  none-near others n ko hn a d =
-      elim (cases-bool (isOk (decoded others))) [
-        | inl t ↦ absurd (burst-never-passes rows k (w .check) others n ko hn a d (accepts others .0 t .check))
-        | inr f ↦ f
-      ]
+  none-near = near rows k (w .check)
 
   pub only-these : OnlyThese rows (blockIn rows)
   only-these others ko e =
@@ -131,11 +154,23 @@ of-accepted rows (Ok b) e P h =
 checked-if-encoded : (b : Block) (rows : List ℕ) → Ok rows ≡ encoded b → checked (b .«record») ≡ Ok tt
 checked-if-encoded b rows e = grind (arith, tells)
 
--- what is encoded fits and keeps the rules
-pub of-encoded : (b : Block) (r : Result (List ℕ) Fault) → r ≡ encoded b → made r (λ _. Formed (dataRows b) × (blockOf (dataRows b) ≡ b)) → b .reference ≤ 65520 → made r (λ rows. decoded rows ≡ Ok b)
-of-encoded b (Err fault) e h n = tt
-of-encoded b (Ok rows) e h n =
+encoded-case : (b : Block) (r : Result (List ℕ) Fault) → r ≡ encoded b → made r (λ _. Formed (dataRows b) × (blockOf (dataRows b) ≡ b)) → (P : List ℕ → Type 0) → (Formed (dataRows b) → blockOf (dataRows b) ≡ b → keepsRules (b .«record») ≡ true → P (rowsOf b)) → made r P
+encoded-case b (Err fault) e s P h = tt
+encoded-case b (Ok rows) e s P h =
     let k : checked (b .«record») ≡ Ok tt = checked-if-encoded b rows e in
-    let p = checked-ok b k in
     let same : rows ≡ rowsOf b = cc (e, ap (λ x. then x (λ _. Ok (rowsOf b))) k) in
-    rw same (decoded-back b (h .0) (h .1) (p .1) n)
+    subst P (sym same) (h (s .0) (s .1) (checked-ok b k .1))
+
+-- what is encoded, by the rows that its record's crate promises
+module _ (b : Block) (r : Result (List ℕ) Fault) (e : r ≡ encoded b) (spelt : made r (λ _. Formed (dataRows b) × (blockOf (dataRows b) ≡ b))) where
+  of-encoded : (P : List ℕ → Type 0) → (Formed (dataRows b) → blockOf (dataRows b) ≡ b → keepsRules (b .«record») ≡ true → P (rowsOf b)) → made r P
+  of-encoded P h = encoded-case b r e spelt P h
+
+  pub encoded-decodes : b .reference ≤ 65520 → made r (λ rows. decoded rows ≡ Ok b)
+  encoded-decodes n = of-encoded (λ rows. decoded rows ≡ Ok b) (λ f u k. decoded-back b f u k n)
+
+  pub encoded-above : 65520 < b .reference → made r (λ rows. decoded rows ≡ Err ReferenceRange)
+  encoded-above n = of-encoded (λ rows. decoded rows ≡ Err ReferenceRange) (λ f u k. decoded-above b f u k n)
+
+  pub encoded-near : made r NoneNear
+  encoded-near = of-encoded NoneNear (λ f u k. near (rowsOf b) (whole b f u k .0) (whole b f u k .1))

@@ -10,7 +10,7 @@ use Rattle.std.specs.declared.result.Result.{Result}
 use Rattle.std.specs.declared.result.Result.the-variants.{Ok, Err}
 use Rattle.fault.specs.declared.Fault.{Fault}
 use Rattle.fault.specs.declared.Fault.the-variants.{Sync, BlockCheck, ReservedBit, ReferenceRange, RecordRule}
-use Rattle.check.specs.Burst.{Rows, AlikeBut, Fits, fitting, withCheck}
+use Rattle.check.specs.Burst.{Rows, AlikeBut, CheckFits, checkFits, withCheck}
 use Rattle.record.specs.declared.record.Block.{Block}
 use Rattle.record.specs.Layout.{dataRows, blockOf, hasSync, reservedClear}
 use Rattle.record.specs.Rules.{keepsRules, checked}
@@ -40,7 +40,7 @@ blockIn rows = blockOf (take 14 rows)
 abbrev pub decoded : List ℕ → Result Block Fault
 decoded rows =
     refuse (not (hasSync (take 14 rows))) Sync
-    (refuse (not (fitting rows)) BlockCheck
+    (refuse (not (checkFits rows)) BlockCheck
     (refuse (not (reservedClear (take 14 rows))) ReservedBit
     (refuse (ltb 65520 (blockIn rows .reference)) ReferenceRange
     (refuse (not (keepsRules (blockIn rows .«record»))) RecordRule
@@ -49,7 +49,7 @@ decoded rows =
 -- Well formed: the sync code is 11111, the check fits, the reserved bits are 0, the reference is at most 65520, and the record keeps the rules.
 pub record WellFormed (rows : List ℕ) : Type 0 where
   pub sync : hasSync (take 14 rows) ≡ true
-  pub check : Fits rows
+  pub check : CheckFits rows
   pub reserved : reservedClear (take 14 rows) ≡ true
   pub reference : blockIn rows .reference ≤ 65520
   pub rules : keepsRules (blockIn rows .«record») ≡ true

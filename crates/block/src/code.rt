@@ -1,13 +1,12 @@
 // Encoding a block in 16 rows, and decoding it.
 ghost use mathlib.Core.Path.{_≡_};
-ghost use mathlib.Core.List.{List};
-ghost use mathlib.Core.Bool.{true};
-ghost use Prim.Native.Nat.{_≤_};
+ghost use Prim.Native.Nat.{_<_, _≤_};
 ghost use lib.ListN.{take};
 ghost use Rattle.std.specs.Orderings.{Decides};
 ghost use Rattle.std.specs.Results.{isOk};
 ghost use Rattle.std.specs.Vec.{made};
-ghost use Rattle.std.specs.declared.result.Result.the-variants.{Ok};
+ghost use Rattle.std.specs.declared.result.Result.the-variants.{Ok, Err};
+ghost use Rattle.fault.specs.declared.Fault.the-variants.{ReferenceRange};
 ghost use Rattle.record.specs.Layout.{dataRows, blockOf};
 ghost use Rattle.record.specs.Laws.{Formed};
 ghost use Rattle.block.specs.Code.{encoded, decoded, WellFormed, NoneNear, OnlyThese};
@@ -23,10 +22,12 @@ use record::reserved_clear;
 // The largest reference: references count modulo 65521.
 const LAST_REFERENCE: u16 = 65520;
 
-// The rows of a block. Decoding gives it back.
+// The rows of a block. Decoding gives the block back, or refuses with 16 if its reference exceeds 65520.
 pub fn encode(block: &Block) -> Result<[u16; 16], Fault>
     ensures answer { λ r. ⌜ r ≡ encoded (now (block .entry)) ⌝ }
     ensures back { λ r. ⌜ (now (block .entry) .reference ≤ 65520 → made r (λ rows. decoded rows ≡ Ok (now (block .entry)))) ⌝ }
+    ensures above { λ r. ⌜ (65520 < now (block .entry) .reference → made r (λ rows. decoded rows ≡ Err ReferenceRange)) ⌝ }
+    ensures burst { λ r. ⌜ made r NoneNear ⌝ }
 {
     rows_of(block)
 }
@@ -36,7 +37,7 @@ pub fn decode(rows: &[u16; 16]) -> Result<Block, Fault>
     ensures answer { λ r. ⌜ r ≡ decoded (now (rows .entry)) ⌝ }
     ensures accepts { λ r. ⌜ Decides (isOk r) (WellFormed (now (rows .entry))) ⌝ }
     ensures back { λ r. ⌜ made r (λ b. encoded b ≡ Ok (now (rows .entry))) ⌝ }
-    ensures alone { λ r. ⌜ made r (OnlyThese (now (rows .entry))) ⌝ }
+    ensures only { λ r. ⌜ made r (OnlyThese (now (rows .entry))) ⌝ }
     ensures burst { λ r. ⌜ made r (λ _. NoneNear (now (rows .entry))) ⌝ }
 {
     judge(rows)

@@ -5,6 +5,7 @@ ghost use Prim.Native.Nat.{ℕ, _+_, _*_, _/_, _<_, _≤_};
 ghost use Rattle.std.specs.declared.result.Result.the-variants.{Ok};
 ghost use Rattle.std.specs.Results.{isOk};
 ghost use Rattle.std.specs.Vec.{made};
+ghost use Rattle.raster.specs.Difference.{differing};
 ghost use Rattle.column.specs.Column.{within, carrying, embedded, carriedRows};
 ghost use Rattle.block.specs.Code.{rowsOf, decoded};
 ghost use Rattle.block.specs.Slab.{done, writable, readable};
@@ -18,7 +19,7 @@ use raster::Extent;
 use raster::Raster;
 use record::Block;
 
-// Writes a block in a column. Reading then answers it, and nothing else moves but what embedding moves.
+// Writes a block in a column. Reading then answers it, if its reference is at most 65520, and nothing moves but what embedding moves.
 pub fn write_block<R: Raster>(slab: &mut R, column: usize, block: &Block) -> Result<(), Fault>
     ensures answer { λ r. ⌜ r ≡ done (writable (R·Raster .rows (now (slab .entry))) (R·Raster .words (now (slab .entry))) column (now (block .entry))) ⌝ }
     ensures rows { λ _. ⌜ R·Raster .rows (now (slab .exit)) ≡ R·Raster .rows (now (slab .entry)) ⌝ }
@@ -28,6 +29,7 @@ pub fn write_block<R: Raster>(slab: &mut R, column: usize, block: &Block) -> Res
     ensures reads { λ r. ⌜ (r ≡ Ok tt → now (block .entry) .reference ≤ 65520 → readable (R·Raster .rows (now (slab .exit))) (R·Raster .words (now (slab .exit))) column (R·Raster .at (now (slab .exit))) ≡ Ok (now (block .entry))) ⌝ }
     ensures others { λ _. ⌜ ((c : ℕ) → (c ≡ column → ⊥) → 16 ≤ R·Raster .rows (now (slab .entry)) → 32 * c + 32 ≤ R·Raster .words (now (slab .entry)) → carriedRows (R·Raster .at (now (slab .exit))) c ≡ carriedRows (R·Raster .at (now (slab .entry))) c) ⌝ }
     ensures only { λ _. ⌜ ((i j : ℕ) → i < R·Raster .rows (now (slab .entry)) → j < R·Raster .words (now (slab .entry)) → (R·Raster .at (now (slab .exit)) i j / 2 ≡ R·Raster .at (now (slab .entry)) i j / 2) × (carrying column i j ≡ false → R·Raster .at (now (slab .exit)) i j ≡ R·Raster .at (now (slab .entry)) i j)) ⌝ }
+    ensures few { λ _. ⌜ differing (R·Raster .at (now (slab .entry))) (R·Raster .at (now (slab .exit))) (R·Raster .rows (now (slab .entry))) (R·Raster .words (now (slab .entry))) ≤ 256 ⌝ }
 {
     let rows = rows_for((*slab).extent(), column, block)?;
     embed(slab, column, &rows)

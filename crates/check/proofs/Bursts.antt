@@ -13,7 +13,7 @@ use Rattle.std.proofs.shelf.Lists.{drop-more, drop-all, ext-getD, getD-take, ge
 use Rattle.std.proofs.shelf.Tests.{cases-eq, cases-lt}
 use Rattle.std.proofs.shelf.Ways.{decides-eqb}
 use Rattle.check.specs.Register.{run, start, checkOf, wordBits, rowBits}
-use Rattle.check.specs.Burst.{Rows, Block, spelledAt, Fits, fitting, AlikeBut, Burst-never-passes, Ends-at-zero, withCheck, Checked-fits}
+use Rattle.check.specs.Burst.{Rows, Block, spelledAt, CheckFits, checkFits, AlikeBut, Burst-never-passes, Ends-at-zero, withCheck, Checked-fits}
 use Rattle.check.proofs.Runs.{run-++, run-below, check-below, bits-++, words-none, words-more}
 use Rattle.check.proofs.Words.{word-low, word-parts, word-enters}
 use Rattle.check.proofs.Inverses.{xor-cancel, run-cancel}
@@ -72,12 +72,12 @@ block-run rows k =
     ∙ ap (λ (l : List ℕ). run (run (checkOf (rowBits (take 14 rows))) (wordBits 32 (spelledAt rows 14))) (rowBits l)) (drop-all 16 rows (omega (arith, k .long)))
     ∙ words-none 16 (run (checkOf (rowBits (take 14 rows))) (wordBits 32 (spelledAt rows 14)))
 
-pub zero-if-fits : (rows : List ℕ) → Block rows → Fits rows → checkOf (rowBits rows) ≡ 0
+pub zero-if-fits : (rows : List ℕ) → Block rows → CheckFits rows → checkOf (rowBits rows) ≡ 0
 zero-if-fits rows k f =
     let c = checkOf (rowBits (take 14 rows)) in
     block-run rows k ∙ ap (λ (x : ℕ). run c (wordBits 32 x)) f ∙ own-zero c (check-below (rowBits (take 14 rows)))
 
-pub fits-if-zero : (rows : List ℕ) → Block rows → checkOf (rowBits rows) ≡ 0 → Fits rows
+pub fits-if-zero : (rows : List ℕ) → Block rows → checkOf (rowBits rows) ≡ 0 → CheckFits rows
 fits-if-zero rows k z =
     let c = checkOf (rowBits (take 14 rows)) in
     let hc = check-below (rowBits (take 14 rows)) in
@@ -86,7 +86,7 @@ fits-if-zero rows k z =
 pub ends-at-zero : Ends-at-zero
 ends-at-zero rows k = (zero-if-fits rows k, fits-if-zero rows k)
 
-pub fitting-decides : (rows : List ℕ) → Decides (fitting rows) (Fits rows)
+pub fitting-decides : (rows : List ℕ) → Decides (checkFits rows) (CheckFits rows)
 fitting-decides rows = decides-eqb (spelledAt rows 14) (checkOf (rowBits (take 14 rows)))
 
 -- two blocks that fit and differ in rows n and n + 1 alone are one block
@@ -102,7 +102,7 @@ module _ (rows others : List ℕ) (n : ℕ) (k : Block rows) (l : Block others) 
       ext-getD 0 (drop (n + 2) others) (drop (n + 2) rows) (simp length-drop (omega (arith, k .long, l .long)))
       (λ i b. getD-drop (n + 2) others i 0 ∙ alike (n + 2 + i) (omega (arith, length-drop (n + 2) others, l .long)) (λ e. omega arith) (λ e. omega arith) ∙ sym (getD-drop (n + 2) rows i 0))
 
-  same-spelled : Fits rows → Fits others → spelledAt others n ≡ spelledAt rows n
+  same-spelled : CheckFits rows → CheckFits others → spelledAt others n ≡ spelledAt rows n
   same-spelled f g =
       let r = run start (rowBits (take n rows)) in
       let hr = run-below (rowBits (take n rows)) start (omega arith) in
@@ -117,7 +117,7 @@ module _ (rows others : List ℕ) (n : ℕ) (k : Block rows) (l : Block others) 
       whole-apart r v w hr (spelled-below others n l h) (spelled-below rows n k h)
       (run-cancel bits (run r (wordBits 32 v)) (run r (wordBits 32 w)) (run-below (wordBits 32 v) r hr) (run-below (wordBits 32 w) r hr) (there ∙ sym here))
 
-  pub same-block : Fits rows → Fits others → others ≡ rows
+  pub same-block : CheckFits rows → CheckFits others → others ≡ rows
   same-block f g =
       let e = same-spelled f g in
       let a : getD others n 0 ≡ getD rows n 0 = omega (arith, e, k .narrow (n + 1) (omega arith), l .narrow (n + 1) (omega arith)) in
@@ -159,7 +159,7 @@ module _ (rows : List ℕ) (k : Rows 14 rows) where
   unfolding halves
   checked-block = record { long = length-append rows halves ∙ omega (arith, k .long); narrow = checked-narrow }
 
-  pub checked-spelled : Fits (withCheck rows)
+  pub checked-spelled : CheckFits (withCheck rows)
   unfolding halves
   checked-spelled =
       let s : spelledAt (withCheck rows) 14 ≡ checkOf (rowBits rows) = omega (arith, high-half, low-half) in

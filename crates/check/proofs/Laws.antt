@@ -6,14 +6,14 @@ use native.Mathlib.Omega.{arith}
 use lib.ListN.{take, drop, getD, length-take}
 use Rattle.std.proofs.shelf.Lists.{drop-all, getD-take}
 use Rattle.check.specs.Register.{checkOf, rowBits}
-use Rattle.check.specs.Burst.{Rows, Block, Fits, withCheck}
+use Rattle.check.specs.Burst.{Rows, Block, CheckFits, withCheck}
 use Rattle.check.proofs.Bursts.{around}
 
 -- the last two rows of a block are the halves of the check over the others exactly if it fits
-pub fits-from-halves : (rows : List ℕ) → getD rows 14 0 ≡ checkOf (rowBits (take 14 rows)) / 2 ^ 16 → getD rows 15 0 ≡ checkOf (rowBits (take 14 rows)) % 2 ^ 16 → Fits rows
+pub fits-from-halves : (rows : List ℕ) → getD rows 14 0 ≡ checkOf (rowBits (take 14 rows)) / 2 ^ 16 → getD rows 15 0 ≡ checkOf (rowBits (take 14 rows)) % 2 ^ 16 → CheckFits rows
 fits-from-halves rows high low = omega (arith, high, low)
 
-pub halves-from-fits : (rows : List ℕ) → Block rows → Fits rows → (getD rows 14 0 ≡ checkOf (rowBits (take 14 rows)) / 2 ^ 16) × (getD rows 15 0 ≡ checkOf (rowBits (take 14 rows)) % 2 ^ 16)
+pub halves-from-fits : (rows : List ℕ) → Block rows → CheckFits rows → (getD rows 14 0 ≡ checkOf (rowBits (take 14 rows)) / 2 ^ 16) × (getD rows 15 0 ≡ checkOf (rowBits (take 14 rows)) % 2 ^ 16)
 halves-from-fits rows k f =
     let low = k .narrow 15 (omega arith) in
     (omega (arith, f, low), omega (arith, f, low))
@@ -25,7 +25,7 @@ first-rows rows k = record {
   narrow = λ i h. omega (arith, getD-take 14 rows i 0 h, k .narrow i (omega arith));
 }
 
-pub checked-from-fits : (rows : List ℕ) → Block rows → Fits rows → rows ≡ withCheck (take 14 rows)
+pub checked-from-fits : (rows : List ℕ) → Block rows → CheckFits rows → rows ≡ withCheck (take 14 rows)
 checked-from-fits rows k f =
     let e = halves-from-fits rows k f in
     let l : drop 16 rows ≡ [] = drop-all 16 rows (omega (arith, k .long)) in

@@ -3,14 +3,14 @@ ghost use mathlib.Core.Path.{_≡_};
 ghost use mathlib.Core.Bool.{true};
 ghost use Rattle.std.specs.Orderings.{Decides};
 ghost use Rattle.check.specs.Register.{checkOf, rowBits};
-ghost use Rattle.check.specs.Burst.{spelledAt, Fits, fitting, Alone, withCheck, Burst-never-passes, Ends-at-zero, Checked-fits};
+ghost use Rattle.check.specs.Burst.{spelledAt, CheckFits, checkFits, Alone, withCheck, Burst-never-passes, Ends-at-zero, Checked-fits};
 use crate::register::of_rows;
 
 // Whether the check of a block fits: exactly if the register over all 16 rows ends at 0. If it does, then no other block
 // fits that differs from this one within two neighbouring rows.
 pub fn fits(rows: &[u16; 16]) -> bool
-    ensures value { λ r. ⌜ r ≡ fitting (now (rows .entry)) ⌝ }
-    ensures decides { λ r. ⌜ Decides r (Fits (now (rows .entry))) ⌝ }
+    ensures value { λ r. ⌜ r ≡ checkFits (now (rows .entry)) ⌝ }
+    ensures decides { λ r. ⌜ Decides r (CheckFits (now (rows .entry))) ⌝ }
     ensures zero { λ r. ⌜ Decides r (checkOf (rowBits (now (rows .entry))) ≡ 0) ⌝ }
     ensures alone { λ r. ⌜ (r ≡ true → Alone (now (rows .entry))) ⌝ }
 {
@@ -20,7 +20,7 @@ pub fn fits(rows: &[u16; 16]) -> bool
 // The rows with their check after them. This block fits, and no other does that differs from it within two neighbouring rows.
 pub fn with_check(rows: &[u16; 14]) -> [u16; 16]
     ensures value { λ r. ⌜ r ≡ withCheck (now (rows .entry)) ⌝ }
-    ensures fits { λ r. ⌜ Fits r ⌝ }
+    ensures fits { λ r. ⌜ CheckFits r ⌝ }
     ensures alone { λ r. ⌜ Alone r ⌝ }
 {
     checked(rows)
@@ -34,7 +34,7 @@ pub fn burst_never_passes()
 {}
 
 fn is_fitting(rows: &[u16; 16]) -> bool
-    ensures { λ r. ⌜ r ≡ fitting (now (rows .entry)) ⌝ }
+    ensures { λ r. ⌜ r ≡ checkFits (now (rows .entry)) ⌝ }
 {
     spelled_check(rows) == of_rows(&rows[0..14])
 }

@@ -24,6 +24,6 @@ returns c =
       answer = e;
       accepts = decides-at (isOk r) (isOk (decoded rows)) (ap isOk e) (accepts rows);
       back = of-accepted rows r e (λ b. encoded b ≡ Ok rows) (encoded-back rows k);
-      alone = of-accepted rows r e (OnlyThese rows) (only-these rows k);
+      only = of-accepted rows r e (OnlyThese rows) (only-these rows k);
       burst = of-accepted rows r e (λ _. NoneNear rows) (none-near rows k);
     }

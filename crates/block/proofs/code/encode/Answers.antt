@@ -1,8 +1,13 @@
-use Rattle.block.proofs.Codes.{of-encoded}
+use Rattle.block.proofs.Codes.{encoded-decodes, encoded-above, encoded-near}
 use Rattle.block.proofs.code.encode.Needs as need
 
 pub returns : need.returns
-returns c = record {
-  answer = c .rows-of .ensures .answer;
-  back = of-encoded (c .args .block .now) (c .rows-of .result) (c .rows-of .ensures .answer) (c .rows-of .ensures .spelt);
-}
+returns c =
+    let b = c .args .block .now in
+    let r = c .rows-of in
+    record {
+      answer = r .ensures .answer;
+      back = encoded-decodes b (r .result) (r .ensures .answer) (r .ensures .spelt);
+      above = encoded-above b (r .result) (r .ensures .answer) (r .ensures .spelt);
+      burst = encoded-near b (r .result) (r .ensures .answer) (r .ensures .spelt)
+    }

@@ -1,5 +1,5 @@
 use Rattle.std.proofs.shelf.Ways.{decides-at, decides-like}
-use Rattle.check.specs.Burst.{Block, fitting}
+use Rattle.check.specs.Burst.{Block, checkFits}
 use Rattle.check.proofs.Bursts.{burst-never-passes, zero-if-fits, fits-if-zero, fitting-decides}
 use Rattle.check.proofs.burst.fits.Needs as need
 
@@ -9,7 +9,7 @@ returns c =
     let block : Block rows = record { long = c .told-rows; narrow = λ i _. c .fits-rows i } in
     let r = c .is-fitting .result in
     let e = c .is-fitting .ensures in
-    let d = decides-at r (fitting rows) e (fitting-decides rows) in
+    let d = decides-at r (checkFits rows) e (fitting-decides rows) in
     record {
       value = e;
       decides = d;

@@ -1,5 +1,5 @@
 use mathlib.Core.Path.{sym, subst}
-use Rattle.check.specs.Burst.{Rows, Fits, Alone, withCheck}
+use Rattle.check.specs.Burst.{Rows, CheckFits, Alone, withCheck}
 use Rattle.check.proofs.Bursts.{burst-never-passes, checked-block, checked-spelled}
 use Rattle.check.proofs.burst.with_check.Needs as need
 
@@ -11,6 +11,6 @@ returns c =
     let f = checked-spelled rows k in
     record {
       value = c .checked .ensures;
-      fits = subst Fits e f;
+      fits = subst CheckFits e f;
       alone = subst Alone e (burst-never-passes (withCheck rows) (checked-block rows k) f);
     }
