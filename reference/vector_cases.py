@@ -401,6 +401,25 @@ class Kind(NamedTuple):
 CHECK, ROWS, BLOCK = "check", "rows", "block"
 R12, R13, R14, R15, R16, R17 = (f"refused {refusal.value}" for refusal in Refusal)
 
+def decode_number_edges(draws: Draws) -> Iterator[str]:
+    for field in NUMBERS:
+        if field in FLAGS or field == "reference":
+            continue
+        for value in edges(field):
+            yield case_decode(encode_block(draws.block() | {field: value}))
+
+
+def worked_rows(draws: Draws) -> Iterator[str]:
+    """The published rows FE02 and FFFC, and the limits of the first two vectors."""
+    flags = {"fr_fl_srib": 1, "top_field_first": 1, "mb_intra": 1}
+    yield case_encode(zero_block() | flags)
+    yield case_encode(zero_block() | {"mv000": -1, "motion_type": 2})
+    for value in (-4097, -4096, 4095, 4096):
+        yield case_encode(zero_block() | {"mv000": value})
+    for value in (-257, -256, -1, 255, 256):
+        yield case_encode(zero_block() | {"mv001": value})
+
+
 KINDS: list[Kind] = [
     Kind("check, published", published_check, {CHECK}),
     Kind("check, lengths 0 to 40", checks_of_every_length, {CHECK}),
@@ -438,6 +457,8 @@ KINDS: list[Kind] = [
     Kind("decode, random rows in sync", decode_random_rows_in_sync, {R14}),
     Kind("decode, random rows in sync, mended", decode_random_rows_mended, {R15}),
     Kind("decode, random fields, mended", decode_random_fields, {BLOCK, R17}),
+    Kind("decode, numbers at their edges", decode_number_edges, {BLOCK}),
+    Kind("encode, worked values", worked_rows, {ROWS, R12}),
 ]
 
 

@@ -104,12 +104,12 @@ module _ (b : Block) (f : Formed (dataRows b)) (u : blockOf (dataRows b) ≡ b) 
 
   well-formed : b .reference ≤ 65520 → WellFormed (rowsOf b)
   well-formed h = record {
-      sync = ap hasSync data-back ∙ f .sync;
-      check = whole .1;
-      reserved = ap reservedClear data-back ∙ f .reserved;
-      reference = subst (λ x. x .reference ≤ 65520) (sym block-back) h;
-      rules = ap (λ x. keepsRules (x .«record»)) block-back ∙ k
-    }
+    sync = ap hasSync data-back ∙ f .sync;
+    check = whole .1;
+    reserved = ap reservedClear data-back ∙ f .reserved;
+    reference = subst (λ x. x .reference ≤ 65520) (sym block-back) h;
+    rules = ap (λ x. keepsRules (x .«record»)) block-back ∙ k;
+  }
 
   pub decoded-back : b .reference ≤ 65520 → decoded (rowsOf b) ≡ Ok b
   decoded-back h = accepted-if-formed (rowsOf b) (well-formed h) ∙ ap Ok block-back
@@ -127,8 +127,8 @@ module _ (b : Block) (f : Formed (dataRows b)) (u : blockOf (dataRows b) ≡ b) 
 near : (rows : List ℕ) → Rows 16 rows → CheckFits rows → NoneNear rows
 near rows k c others n ko hn a d =
     elim (cases-bool (isOk (decoded others))) [
-      inl t ↦ absurd (burst-never-passes rows k c others n ko hn a d (accepts others .0 t .check))
-    | inr f ↦ f
+      | inl t ↦ absurd (burst-never-passes rows k c others n ko hn a d (accepts others .0 t .check))
+      | inr f ↦ f
     ]
 
 -- the burst law, and that no other rows spell the block

@@ -4,7 +4,6 @@ ghost use lib.ListN.{length};
 ghost use mathlib.Core.Path.{_≡_};
 ghost use Prim.Native.Nat.{ℕ, _+_, _*_, _<_};
 ghost use Rattle.std.specs.Orderings.{Decides};
-ghost use Rattle.std.specs.Vec.{made};
 ghost use Rattle.std.specs.declared.result.Result.the-variants.{Ok};
 ghost use Rattle.raster.specs.Difference.{differing};
 ghost use Rattle.buffer.specs.Packed.{packedAt};

@@ -1,6 +1,6 @@
 -- The layout of a block: one table, and what encoder and decoder make of it.
--- A block has 16 rows of 16 bits, each filled from the most significant bit. Rows 14 and 15 hold the check over the others and are not
--- spoken of here; rows 0 to 13 are the data rows.
+-- A block has 16 rows of 16 bits, each filled from the most significant bit. Rows 0 to 13 are the data rows, in the table below. Row 14 is
+-- the high half and row 15 the low half of the check over them: `withCheck` of the crate `check`, put together in the crate `block`.
 use Prim.Native.Nat.{ℕ, suc, _+_, _-_, _*_, _/_, _%_, _^_}
 use mathlib.Core.Bool.{Bool, cond, true, false, _&&_}
 use mathlib.Core.List.{List, [], _∷_, map}

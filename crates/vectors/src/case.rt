@@ -28,7 +28,19 @@ impl<'a, 'b> Words<'a, 'b> {
     }
 
     fn flag(&mut self) -> Result<bool, AnyError> {
-        Ok(self.next()?.parse::<u8>()? == 1)
+        match self.next()?.parse::<u8>()? {
+            0 => Ok(false),
+            1 => Ok(true),
+            _ => Err("a flag that is neither 0 nor 1".into()),
+        }
+    }
+
+    // All words are taken.
+    fn end(&self) -> Result<(), AnyError> {
+        if self.at < self.words.len() {
+            return Err("a case of too many words".into());
+        }
+        Ok(())
     }
 
     fn byte(&mut self) -> Result<u8, AnyError> {
@@ -105,12 +117,14 @@ impl<'a, 'b> Words<'a, 'b> {
     }
 
     pub fn block(&mut self) -> Result<Block, AnyError> {
-        Ok(Block {
+        let block = Block {
             picture: self.picture()?,
             reference: self.next()?.parse::<u16>()?,
             element: self.next()?.parse::<u32>()?,
             record: self.record()?,
-        })
+        };
+        (*self).end()?;
+        Ok(block)
     }
 
     pub fn rows(&mut self) -> Result<[u16; 16], AnyError> {
@@ -118,26 +132,36 @@ impl<'a, 'b> Words<'a, 'b> {
         for i in 0..16 {
             rows[i] = self.row()?;
         }
+        (*self).end()?;
         Ok(rows)
     }
 
     // The bytes that pairs of hex digits spell; none where no word is left.
     pub fn bytes(&mut self, heap: Global) -> Result<Vec<u8>, AnyError> {
-        let mut bytes = Vec::new(heap);
         let text = self.words.get(self.at).copied().unwrap_or("");
-        let mut high = None;
-        for digit in text.bytes() {
-            let value = nibble(digit)?;
-            match high {
-                None => high = Some(value),
-                Some(above) => {
-                    bytes.push((above << 4) | value)?;
-                    high = None;
-                }
+        self.at = self.at.saturating_add(1);
+        (*self).end()?;
+        bytes_of(heap, text)
+    }
+}
+
+fn bytes_of(heap: Global, text: &str) -> Result<Vec<u8>, AnyError> {
+    let mut bytes = Vec::new(heap);
+    let mut high = None;
+    for digit in text.bytes() {
+        let value = nibble(digit)?;
+        match high {
+            None => high = Some(value),
+            Some(above) => {
+                bytes.push((above << 4) | value)?;
+                high = None;
             }
         }
-        Ok(bytes)
     }
+    if high.is_some() {
+        return Err("half a byte".into());
+    }
+    Ok(bytes)
 }
 
 fn nibble(digit: u8) -> Result<u8, AnyError> {

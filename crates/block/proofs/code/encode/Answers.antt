@@ -9,5 +9,5 @@ returns c =
       answer = r .ensures .answer;
       back = encoded-decodes b (r .result) (r .ensures .answer) (r .ensures .spelt);
       above = encoded-above b (r .result) (r .ensures .answer) (r .ensures .spelt);
-      burst = encoded-near b (r .result) (r .ensures .answer) (r .ensures .spelt)
+      burst = encoded-near b (r .result) (r .ensures .answer) (r .ensures .spelt);
     }

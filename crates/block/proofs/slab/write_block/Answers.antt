@@ -18,5 +18,5 @@ returns-in-Break-rows g c =
       reads = search needs;
       others = search needs;
       only = search needs;
-      few = few-differ at at (g .R·Raster .rows (c .args .slab .now)) (g .R·Raster .words (c .args .slab .now)) 0 [] false (λ i j hi hj. refl)
+      few = few-differ at at (g .R·Raster .rows (c .args .slab .now)) (g .R·Raster .words (c .args .slab .now)) 0 [] false (λ i j hi hj. refl);
     }
