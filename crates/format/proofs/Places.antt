@@ -1,15 +1,18 @@
 -- Macroblocks by their place: what the numbers of a macroblock can be, and that they tell it from the others.
 use Prim.Native.Nat.{ℕ, _+_, _*_, _%_, _<_, _≤_}
-use mathlib.Core.Path.{_≡_, refl, ap}
-use mathlib.Core.Bool.{Bool, true}
+use mathlib.Core.Path.{_≡_}
+use mathlib.Core.Bool.{true}
 use native.Mathlib.Omega.{arith}
 use lib.Dec.{ltb, lit≤}
 use Rattle.std.proofs.shelf.Bits.{mul-add-lt}
-use Rattle.std.proofs.shelf.Tests.{and-parts, and-from, ltb-true, lt-ltb}
+use Rattle.std.proofs.shelf.Tests.{and-parts, and-from, ltb-true, lt-ltb, cond-true}
+use Rattle.std.proofs.shelf.Ways.{tells}
+use Rattle.std.specs.declared.result.Result.the-variants.{Ok, Err}
+use Rattle.fault.specs.declared.Fault.the-variants.{NotInFormat}
 use Rattle.raster.proofs.Flat.{row-of}
 use Rattle.format.specs.declared.table.Format.{Format}
 use Rattle.format.specs.declared.table.Format.the-variants.{Frame1080, Field1080, Frame720, Bench}
-use Rattle.format.specs.Formats.{columnsOf, stripesOf, inFormat, macroblocksOf, positionOf, referenceCount, referenceOf, nextFirst, elementCount, indexOf}
+use Rattle.format.specs.Formats.{columnsOf, stripesOf, inFormat, within, slabOf, macroblocksOf, positionOf, referenceCount, referenceOf, nextFirst, elementCount, indexOf}
 
 pub from-in-format : (f : Format) (stripe column : ℕ) → inFormat f stripe column ≡ true → (stripe < stripesOf f) × (column < columnsOf f)
 from-in-format f stripe column h =
@@ -19,11 +22,28 @@ pub is-in-format : (f : Format) (stripe column : ℕ) → stripe < stripesOf f �
 is-in-format f stripe column hs hc =
     and-from (ltb stripe (stripesOf f)) (ltb column (columnsOf f)) (lt-ltb stripe (stripesOf f) hs) (lt-ltb column (columnsOf f) hc)
 
+-- what was answered was asked of a macroblock in the format, and is the answer
+pub from-within : {A : Type 0} (f : Format) (stripe column : ℕ) (x y : A) → Ok y ≡ within f stripe column x → (y ≡ x) × (inFormat f stripe column ≡ true)
+from-within f stripe column x y e = (grind (arith, tells), grind (arith, tells))
+
+pub is-within : {A : Type 0} (f : Format) (stripe column : ℕ) (x : A) → inFormat f stripe column ≡ true → within f stripe column x ≡ Ok x
+is-within f stripe column x h = cond-true (inFormat f stripe column) (Ok x) (Err NotInFormat) h
+
+-- the words of a column lie in the slab
+pub slab-has : (f : Format) (column : ℕ) → column < columnsOf f → 32 * column + 32 ≤ slabOf f .words
+slab-has f column h = omega arith
+
 pub columns-few : (f : Format) → columnsOf f ≤ 120
 columns-few Frame1080 = lit≤ tt
 columns-few Field1080 = lit≤ tt
 columns-few Frame720 = lit≤ tt
 columns-few Bench = lit≤ tt
+
+pub stripes-few : (f : Format) → stripesOf f ≤ 68
+stripes-few Frame1080 = lit≤ tt
+stripes-few Field1080 = lit≤ tt
+stripes-few Frame720 = lit≤ tt
+stripes-few Bench = lit≤ tt
 
 pub macroblocks-few : (f : Format) → macroblocksOf f ≤ 8160
 macroblocks-few Frame1080 = lit≤ tt
