@@ -44,7 +44,8 @@ impl Format {
 
     // The reference of a macroblock, in a picture that begins at the reference `first`.
     pub fn reference(self, first: u16, stripe: usize, column: usize) -> Result<u16, Fault>
-        ensures { λ r. ⌜ r ≡ within self stripe column (referenceOf self first stripe column) ⌝ }
+        ensures answer { λ r. ⌜ r ≡ within self stripe column (referenceOf self first stripe column) ⌝ }
+        ensures small { λ r. ⌜ made r (λ n. n ≤ 65520) ⌝ }
     {
         let position = self.position(stripe, column)?;
         Ok(around(usize::from(first) + position))
@@ -52,7 +53,8 @@ impl Format {
 
     // The element that a macroblock carries.
     pub fn index(self, stripe: usize, column: usize) -> Result<usize, Fault>
-        ensures { λ r. ⌜ r ≡ within self stripe column (indexOf stripe column) ⌝ }
+        ensures answer { λ r. ⌜ r ≡ within self stripe column (indexOf stripe column) ⌝ }
+        ensures small { λ r. ⌜ made r (λ i. i < 135) ⌝ }
     {
         if self.holds(stripe, column) {
             Ok((stripe % 3 * 45 + column + 27 * (stripe / 3)) % ELEMENTS)
@@ -63,7 +65,8 @@ impl Format {
 
     // The first reference of the picture after one that begins at the reference `first`.
     pub fn next_first(self, first: u16) -> u16
-        ensures { λ r. ⌜ r ≡ nextFirst self first ⌝ }
+        ensures answer { λ r. ⌜ r ≡ nextFirst self first ⌝ }
+        ensures small { λ r. ⌜ r ≤ 65520 ⌝ }
     {
         around(usize::from(first) + self.macroblocks())
     }
@@ -71,7 +74,8 @@ impl Format {
 
 // The reference that counting so far comes to.
 fn around(count: usize) -> u16
-    ensures { λ r. ⌜ r ≡ count % 65521 ⌝ }
+    ensures answer { λ r. ⌜ r ≡ count % 65521 ⌝ }
+    ensures small { λ r. ⌜ r ≤ 65520 ⌝ }
 {
     (count % REFERENCES) as u16
 }
