@@ -3,10 +3,10 @@
 use Prim.Native.Nat.{ℕ, zero, suc, _+_, _-_, _*_, _/_, _%_, _<_, _≤_}
 use mathlib.Core.Path.{_≡_, refl, ap, ap₂, sym, _∙_}
 use mathlib.Core.Logic.{inl, inr}
-use mathlib.Core.Bool.{Bool, true, false, _&&_}
+use mathlib.Core.Bool.{Bool, true, _&&_}
 use native.Mathlib.Omega.{arith}
-use lib.Dec.{eqb, leb, ltb, lit<}
-use Rattle.std.proofs.shelf.Tests.{cases-order, cases-lt, and-parts, eqb-true, leb-true, eq-eqb, ne-eqb, lt-ltb, le-ltb}
+use lib.Dec.{leb, ltb, lit<}
+use Rattle.std.proofs.shelf.Tests.{cases-order, and-parts, eqb-true, leb-true, eq-eqb, ne-eqb, lt-ltb, le-ltb}
 use Rattle.format.specs.declared.table.Format.{Format}
 use Rattle.format.specs.declared.table.Format.the-variants.{Frame1080, Field1080, Frame720, Bench}
 use Rattle.format.specs.Formats.{columnsOf, stripesOf, carriersOf, elementCount, indexOf}

@@ -1,6 +1,6 @@
 -- A list of macroblocks names no more of them than it is long.
-use Prim.Native.Nat.{ℕ, zero, suc, _+_, _<_, _≤_}
-use mathlib.Core.Path.{_≡_, refl, ap, ap₂, _∙_}
+use Prim.Native.Nat.{ℕ, zero, suc, _+_, _≤_}
+use mathlib.Core.Path.{_≡_, refl, ap, ap₂}
 use mathlib.Core.Logic.{_⊎_, inl, inr}
 use mathlib.Core.Bool.{Bool, true, false, _&&_, _||_}
 use mathlib.Core.List.{List, [], _∷_}
@@ -8,9 +8,8 @@ use native.Mathlib.Omega.{arith}
 use lib.Dec.{eqb}
 use lib.ListN.{length}
 use Rattle.std.proofs.shelf.Tests.{cases-eq, ne-eqb, eq-eqb, true≢false}
-use Rattle.format.specs.declared.table.Format.{Format}
 use Rattle.format.specs.Formats.{columnsOf, stripesOf}
-use Rattle.format.specs.Carriers.{one, inStripe, inStripes, count, listed, LeftOfLists}
+use Rattle.format.specs.Carriers.{one, inStripe, inStripes, listed, LeftOfLists}
 use Rattle.format.proofs.Carried.{left-of-sets}
 
 one-or : (a b : Bool) → one (a || b) ≤ one a + one b

@@ -9,7 +9,7 @@ use Rattle.std.proofs.shelf.Tests.{cases-eq}
 use Rattle.std.specs.declared.option.Option.the-variants.{Some}
 use Rattle.format.specs.declared.table.Format.{Format}
 use Rattle.format.specs.declared.table.Format.the-variants.{Frame1080, Field1080, Frame720, Bench}
-use Rattle.format.specs.Formats.{lineOf, numberOf, carriersOf, formatOf, positionOf, referenceOf, Listed, Used}
+use Rattle.format.specs.Formats.{numberOf, carriersOf, formatOf, positionOf, referenceOf, Listed, Used}
 use Rattle.format.specs.Carriers.{Samples}
 
 pub listed : Listed
