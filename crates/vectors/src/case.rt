@@ -1,4 +1,8 @@
 // The words of a case as numbers.
+ghost use mathlib.Core.Path.{_≡_};
+ghost use Rattle.std.specs.Results.{isOk};
+ghost use Rattle.std.specs.Vec.{made};
+ghost use Rattle.vectors.specs.Case.{isHex, hexValue};
 use record::Block;
 use record::PictureFlags;
 use record::Record;
@@ -14,7 +18,9 @@ pub struct Words<'a, 'b> {
 
 impl<'a, 'b> Words<'a, 'b> {
     // The words after the first.
-    pub fn new(words: &'a [&'b str]) -> Words<'a, 'b> {
+    pub fn new(words: &'a [&'b str]) -> Words<'a, 'b>
+        ensures { λ r. ⌜ r .at ≡ 1 ⌝ }
+    {
         Words { words, at: 1 }
     }
 
@@ -164,7 +170,10 @@ fn bytes_of(heap: Global, text: &str) -> Result<Vec<u8>, AnyError> {
     Ok(bytes)
 }
 
-fn nibble(digit: u8) -> Result<u8, AnyError> {
+fn nibble(digit: u8) -> Result<u8, AnyError>
+    ensures test { λ r. ⌜ isOk r ≡ isHex digit ⌝ }
+    ensures value { λ r. ⌜ made r (λ v. v ≡ hexValue digit) ⌝ }
+{
     match digit {
         b'0'..=b'9' => Ok(digit - b'0'),
         b'A'..=b'F' => Ok(digit - b'A' + 10),
