@@ -1,4 +1,6 @@
 // The bench picture, format 4: three slabs of 16 rows of 1,440 words, each packed in 28,800 bytes.
+#![tactic(auto)]
+
 mod empty;
 mod gather;
 mod input;

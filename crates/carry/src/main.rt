@@ -1,4 +1,6 @@
 // Carries blocks through a bench picture: writes them in three packed slabs, reads them back, and says what moved.
+#![tactic(auto)]
+
 ghost use Rattle.std.specs.Prelude.{◌≡◌, is_ok, IfOk, if◌then◌else◌, vec_len};
 ghost use Rattle.carry.specs.Slab.{padded};
 

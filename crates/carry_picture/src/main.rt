@@ -1,4 +1,6 @@
 // Carries records through a bench picture: places them in three packed slabs, reads them back, gathers them, and says what moved.
+#![tactic(auto)]
+
 use bench::{Slabs, empty_slots};
 use gathering::gather_picture;
 use line::PictureLine;

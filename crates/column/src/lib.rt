@@ -1,4 +1,6 @@
 // Columns: how the 16 rows of 16 bits of a block travel in one column of a slab.
+#![tactic(auto)]
+
 mod column;
 mod scramble;
 

@@ -1,4 +1,6 @@
 // The check over a block's rows and over an image's bytes.
+#![tactic(auto)]
+
 mod burst;
 mod register;
 mod table;

@@ -1,4 +1,6 @@
 // Damage stays where it falls: the law over runs of the calls.
+#![tactic(auto)]
+
 ghost use Rattle.damage.specs.Damage.{DamageStaysWhereItFalls};
 ghost use Rattle.damage.specs.Worked.{WorkedRuns};
 

@@ -1,4 +1,6 @@
 // The extractor: reads blocks out of slabs, and gathers a picture's elements and records.
+#![tactic(auto)]
+
 mod delivery;
 mod gather;
 mod gathering;

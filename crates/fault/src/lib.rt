@@ -1,4 +1,6 @@
 // The refusal: one type for every layer, carried whole by `?` from raster to block to picture.
+#![tactic(auto)]
+
 ghost use Rattle.std.specs.Prelude.{◌≡◌};
 ghost use Rattle.fault.specs.Table.{number_of, layer_of, place_of, table_numbers, Listed, Used, Apart, Ascending};
 

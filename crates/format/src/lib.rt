@@ -1,4 +1,6 @@
 // Picture formats: their shape, where a macroblock stands in a picture, and which element it carries.
+#![tactic(auto)]
+
 mod laws;
 mod place;
 mod table;

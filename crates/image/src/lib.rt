@@ -1,4 +1,6 @@
 // A picture's image: its table, sealing, and its elements.
+#![tactic(auto)]
+
 mod elements;
 mod image;
 mod judge;

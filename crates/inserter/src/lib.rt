@@ -1,4 +1,6 @@
 // The inserter: counts references from picture to picture, and places records on the macroblocks of an open picture.
+#![tactic(auto)]
+
 mod alone;
 mod counter;
 mod inserter;

@@ -1,4 +1,6 @@
 // Layers: rasters over any raster, which show a part of it.
+#![tactic(auto)]
+
 mod beside;
 mod field;
 mod window;

@@ -1,4 +1,6 @@
 // Rasters: rows of ten-bit sample words, and what it means to look at them and to set them.
+#![tactic(auto)]
+
 ghost use Rattle.std.specs.Prelude.{◌≡◌, ℕ, ◌<◌};
 ghost use Rattle.raster.specs.Meaning.{answered, replaced};
 

@@ -2,3 +2,4 @@ pub mod Components
 pub mod Layout
 pub mod Rules
 pub mod Laws
+pub mod Equality

@@ -1,4 +1,6 @@
 // A macroblock's record, the block that carries it, and the block's data rows.
+#![tactic(auto)]
+
 mod decode;
 mod encode;
 mod laws;

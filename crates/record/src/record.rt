@@ -1,9 +1,9 @@
 // A macroblock's record, and the block in which it travels.
-ghost use Rattle.std.specs.Prelude.{◌≡◌, Decides};
-ghost use Rattle.record.specs.Components.{flags_of, vectors_of, numbers_of};
-ghost use Rattle.std.specs.Cmp.Rules.{comparing};
-ghost use Rattle.std.proofs.Common.{rules};
+ghost use Rattle.std.specs.Prelude.{◌≡◌};
+ghost use Rattle.std.specs.Bool.{Decides};
 ghost use Rattle.std.specs.Cmp as Keys;
+ghost use Rattle.record.specs.Components.{flags_of, vectors_of, numbers_of};
+ghost use Rattle.record.specs.Equality.{is_same_record, is_same_block, is_same_record_laws, is_same_block_laws};
 
 // The recoding data of one macroblock (SMPTE 327M). A vector mvrst has r for the vector, s for its direction, and t = 0 for
 // its horizontal component, 1 for the vertical. Every number has a width of its own, which may be less than its type's.
@@ -94,11 +94,15 @@ impl Record {
 }
 
 impl PartialEq for Record {
-    ghost equals = { λ x y r. Decides r (x ≡ y) };
+    ghost eq = { is_same_record };
 
-    ghost laws = { Keys.partial_equiv_from_equiv (Prim.search (comparing, rules)) };
+    ghost laws = { Keys.partial_equiv_from_equiv is_same_record_laws };
 
-    fn eq(&self, other: &Record) -> bool {
+    #[tactic(auto, unfolding(crate::specs::Equality::is_same_record))]
+    fn eq(&self, other: &Record) -> bool
+        ensures computed { result ≡ is_same_record self.now other.now }
+        ensures exact { Decides result (self.now ≡ other.now) }
+    {
         self.flags() == other.flags()
             && self.vectors() == other.vectors()
             && self.numbers() == other.numbers()
@@ -107,15 +111,18 @@ impl PartialEq for Record {
 }
 
 impl Eq for Record {
-    ghost laws = { Prim.search (comparing, rules) };
+    ghost laws = { is_same_record_laws };
 }
 
 impl PartialEq for Block {
-    ghost equals = { λ x y r. Decides r (x ≡ y) };
+    ghost eq = { is_same_block };
 
-    ghost laws = { Keys.partial_equiv_from_equiv (Prim.search (comparing, rules)) };
+    ghost laws = { Keys.partial_equiv_from_equiv is_same_block_laws };
 
-    fn eq(&self, other: &Block) -> bool {
+    fn eq(&self, other: &Block) -> bool
+        ensures computed { result ≡ is_same_block self.now other.now }
+        ensures exact { Decides result (self.now ≡ other.now) }
+    {
         self.picture == other.picture
             && self.reference == other.reference
             && self.element == other.element
@@ -124,5 +131,5 @@ impl PartialEq for Block {
 }
 
 impl Eq for Block {
-    ghost laws = { Prim.search (comparing, rules) };
+    ghost laws = { is_same_block_laws };
 }

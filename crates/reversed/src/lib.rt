@@ -1,5 +1,7 @@
 // A raster that the libraries do not know: the rows of another, from the last to the first. It shows the meaning of a raster, so
 // everything above holds of it with no new proof; the test runs place, gather and deliver through it.
+#![tactic(auto)]
+
 ghost use Rattle.std.specs.Prelude.{◌≡◌, ℕ, ◌+◌, ◌-◌, ◌<◌, Ok, refl};
 ghost use Rattle.std.proofs.Common.{◌∙◌};
 ghost use Rattle.raster.specs.Meaning.{answered, replaced};

@@ -1,4 +1,6 @@
 // Surveys a bench picture: gathers its three packed slabs, and says what became of each stripe and of the image.
+#![tactic(auto)]
+
 use bench::{Slabs, empty_slots};
 use damage::damage_stays_where_it_falls;
 use picture::survey_picture;

@@ -1,4 +1,6 @@
 // Tallies: gathering a stripe at a time, and counting what came of it.
+#![tactic(auto)]
+
 mod kind;
 mod stripe;
 mod telling;

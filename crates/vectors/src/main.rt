@@ -1,4 +1,6 @@
 // Answers cases, one a line of standard input, so that a second program can be held to the same answers.
+#![tactic(auto)]
+
 use answer::{check_case, decode_case, encode_case};
 use anyhow::anyhow;
 use std::io::{BufRead, BufReader};

@@ -1,4 +1,7 @@
 // Answers cases, one a line of standard input, so that a second program can be held to the same answers.
+#![tactic(auto)]
+
+use anyhow::anyhow;
 use blocks::{check_case, decode_case, encode_case};
 use case::Words;
 use deliveries::deliver_case;
@@ -84,6 +87,6 @@ fn answer_picture(heap: Global, kind: &str, case: &mut Words<'_>) -> Result<Stri
         "gather" => gather_case(heap, case),
         "deliver" => deliver_case(heap, case),
         "scene" => scene_case(heap, case),
-        _ => Err(Stop::Broken("a case of no known kind".into())),
+        _ => Err(Stop::Broken(anyhow!("a case of no known kind"))),
     }
 }

@@ -1,4 +1,6 @@
 // Worked examples: published values, stated of the definitions; and as tests, the same values and a pile of layers over packed memory.
+#![tactic(auto)]
+
 #[cfg(test)]
 mod piles;
 mod table;

@@ -15,11 +15,11 @@ returns c =
     let slots = length c.args.table.now.slots.now in
     let memory = c.args.memory.now in
     let sheet = c.args.sheet.now in
-    let slab = c.slab-in-slab.ensures in
+    let slab = c.slab_in-slab.ensures in
     let empty : c.clear.new.self.slots.now ≡ cleared sheet = c.clear.ensures.slots ∙ ap cleared c.new-records.ensures.slots in
     let long : length c.clear.new.self.slots.now ≡ length sheet = ap length empty ∙ simp length-replicate in
-    let e = c.gather-stripe.ensures in
-    let tally : c.gather-stripe.result ≡ tally_in g c.args.stripe memory slots (length sheet) =
+    let e = c.gather_stripe.ensures in
+    let tally : c.gather_stripe.result ≡ tally_in g c.args.stripe memory slots (length sheet) =
     e.tally ∙ tally_as c.args.stripe g g slots slots _ _ _ _ _ _ refl refl slab.extent slab.value long in
     record {
       tally = tally;

@@ -4,7 +4,7 @@ use Rattle.block.proofs.code.encode.Goals as goal
 pub returns : goal.returns
 returns c =
     let b = c.args.block.now in
-    let r = c.rows-of in
+    let r = c.rows_of in
     record {
       answer = r.ensures.answer;
       back = encoded_decodes b r.result r.ensures.answer r.ensures.spelt;

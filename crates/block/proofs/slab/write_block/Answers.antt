@@ -3,8 +3,8 @@ use Rattle.std.proofs.Common.{false, [], refl, rules}
 use Rattle.column.proofs.Laws.{few_differ}
 use Rattle.block.proofs.slab.write_block.Goals as goal
 
-pub returns-in-err-rows : goal.returns-in-err-rows
-returns-in-err-rows g c =
+pub returns-in_err-rows : goal.returns-in_err-rows
+returns-in_err-rows g c =
     let at = g.R.Raster.at c.args.slab.now in
     record {
       answer = search rules;

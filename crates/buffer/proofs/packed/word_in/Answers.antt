@@ -9,6 +9,6 @@ unfolding packed_word
 returns c =
     let m = c.args.memory.now in
     let g = c.args.n / 4 * 5 in
-    let at : (k : ℕ) → k < 5 → get_or (take (length m - g) (drop g m)) k 0 ≡ byte_at m (g + k) = λ k h. let e : get_or (take (length m - g) (drop g m)) k 0 ≡ get_or m (g + k) 0 = search (rules, places) in omega (arith, e, c.type-inv.memory (g + k)) in
-    let at0 : get_or (take (length m - g) (drop g m)) 0 0 ≡ byte_at m g = let e : get_or (take (length m - g) (drop g m)) 0 0 ≡ get_or m g 0 = search (rules, places) in omega (arith, e, c.type-inv.memory g) in
+    let at : (k : ℕ) → k < 5 → get_or (take (length m - g) (drop g m)) k 0 ≡ byte_at m (g + k) = λ k h. let e : get_or (take (length m - g) (drop g m)) k 0 ≡ get_or m (g + k) 0 = search (rules, places) in omega (arith, e, c.type_inv.memory (g + k)) in
+    let at0 : get_or (take (length m - g) (drop g m)) 0 0 ≡ byte_at m g = let e : get_or (take (length m - g) (drop g m)) 0 0 ≡ get_or m g 0 = search (rules, places) in omega (arith, e, c.type_inv.memory g) in
     c.quarter.ensures ∙ simp (at0, at 1 (omega arith), at 2 (omega arith), at 3 (omega arith), at 4 (omega arith))

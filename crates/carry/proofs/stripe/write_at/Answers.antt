@@ -7,8 +7,8 @@ use Rattle.carry.proofs.stripe.write_at.Goals as goal
 pub returns : goal.returns
 returns g c =
     let m = g.R.Raster in
-    let w = c.write-block in
-    let b = c.block-at.ensures.value in
+    let w = c.write_block in
+    let b = c.block_at.ensures.value in
     let rows : m.rows c.args.slab.now ≡ 16 = search rules in
     let words : m.words c.args.slab.now ≡ 1440 = search rules in
     let ok : w.result ≡ Ok tt = w.ensures.answer ∙ ap (λ x. done (writable (m.rows c.args.slab.now) (m.words c.args.slab.now) c.args.column x)) b ∙ writes _ _ c.args.stripe c.args.column rows words (search rules) (search rules) in
@@ -18,7 +18,7 @@ returns g c =
       words = w.ensures.words ∙ words;
       kept = w.ensures.kept;
       one = record {
-        reads = sym (read_inside (m.rows w.new.slab) (m.words w.new.slab) c.args.column (m.at w.new.slab) (w.ensures.rows ∙ rows) (w.ensures.words ∙ words) (search rules)) ∙ w.ensures.reads ok c.block-at.ensures.reference ∙ ap Ok b;
+        reads = sym (read_inside (m.rows w.new.slab) (m.words w.new.slab) c.args.column (m.at w.new.slab) (w.ensures.rows ∙ rows) (w.ensures.words ∙ words) (search rules)) ∙ w.ensures.reads ok c.block_at.ensures.reference ∙ ap Ok b;
         others = λ k d h. w.ensures.others k d (omega (arith, rows)) (omega (arith, words, h));
         only = λ i j hi hj. w.ensures.only i j (omega (arith, rows)) (omega (arith, words));
       };

@@ -9,7 +9,7 @@ pub loop-column-preserved : goal.loop-column-preserved
 loop-column-preserved g c =
     let m = g.R.Raster in
     let i = c.loop-column.invariant in
-    let w = c.write-at in (
+    let w = c.write_at in (
       m.onward c.args.slab.now c.loop-column.slab w.new.slab i.0 w.ensures.kept,
       w.ensures.rows,
       w.ensures.words,

@@ -11,14 +11,14 @@ returns g c =
     let image = c.args.image.now.bytes in
     let rows : m.rows c.args.slab.now ≡ 16 = search rules in
     let words : m.words c.args.slab.now ≡ 1440 = search rules in
-    let ok : p.result ≡ Ok tt = p.ensures.answer ∙ places picture.format picture.first c.args.stripe c.args.column _ _ image _ (search rules) (search rules) (search rules) (search rules) rows words c.zero-record.ensures (search rules) in
+    let ok : p.result ≡ Ok tt = p.ensures.answer ∙ places picture.format picture.first c.args.stripe c.args.column _ _ image _ (search rules) (search rules) (search rules) (search rules) rows words c.zero_record.ensures (search rules) in
     record {
       answer = ok;
       rows = p.ensures.rows ∙ rows;
       words = p.ensures.words ∙ words;
       kept = p.ensures.kept;
       one = record {
-        reads = p.ensures.reads ok ∙ ap Ok (block_is picture.format picture.first c.args.stripe c.args.column 16 1440 image _ (search rules) (search rules) (search rules) (search rules) refl refl c.zero-record.ensures (search rules));
+        reads = p.ensures.reads ok ∙ ap Ok (block_is picture.format picture.first c.args.stripe c.args.column 16 1440 image _ (search rules) (search rules) (search rules) (search rules) refl refl c.zero_record.ensures (search rules));
         others = λ k d h. p.ensures.others k d (omega (arith, rows)) (omega (arith, words, h));
         only = λ i j hi hj. p.ensures.only i j (omega (arith, rows)) (omega (arith, words));
       };

@@ -7,7 +7,7 @@ use Rattle.carry_picture.proofs.reading.read_words.Goals as goal
 
 pub returns : goal.returns
 returns c =
-    let s = c.slab-in-slab in
+    let s = c.slab_in-slab in
     let w : s.result.extent.words ≡ 1440 = search rules in
     let all : (k : ℕ) → k < 45 → Reads (packed_at s.result.memory.now s.result.extent.words) c.args.stripe k = rw (s.ensures.value, w) (search rules) in
-    record { answer = count_all c.count-read.ensures all; memory = search rules }
+    record { answer = count_all c.count_read.ensures all; memory = search rules }

@@ -5,6 +5,6 @@ use Rattle.column.proofs.column.carried.Goals as goal
 
 pub returns : goal.returns
 returns g c =
-    let e : ◌≡◌ {A = Window} c.in-ok-window.window (record { row = 0; word = 32 * c.args.column }) = search rules in
-    let b = window_rows (g.R.Raster.at c.args.slab.now) c.in-ok-window.window c.args.column e in
+    let e : ◌≡◌ {A = Window} c.in_ok-window.window (record { row = 0; word = 32 * c.args.column }) = search rules in
+    let b = window_rows (g.R.Raster.at c.args.slab.now) c.in_ok-window.window c.args.column e in
     search rules

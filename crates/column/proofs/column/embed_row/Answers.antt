@@ -7,7 +7,7 @@ loop-k-preserved g c =
     let m = g.R.Raster in (
       search rules,
       search rules,
-      m.onward c.args.slab.now c.loop-k.slab c.embed-bit.new.slab c.loop-k.invariant.2 c.embed-bit.ensures.kept,
-      bit_more (m.at c.args.slab.now) (m.at c.loop-k.slab) (m.at c.embed-bit.new.slab) _ _ (c.args.window.row + c.args.row) c.args.window.word c.args.value c.loop-k.k c.bit-of.result
-          (search rules) (search rules) (search rules) (search rules) c.loop-k.invariant.3 (λ i j hi hj. c.embed-bit.ensures.after i j (search rules) (search rules)),
+      m.onward c.args.slab.now c.loop-k.slab c.embed_bit.new.slab c.loop-k.invariant.2 c.embed_bit.ensures.kept,
+      bit_more (m.at c.args.slab.now) (m.at c.loop-k.slab) (m.at c.embed_bit.new.slab) _ _ (c.args.window.row + c.args.row) c.args.window.word c.args.value c.loop-k.k c.bit_of.result
+          (search rules) (search rules) (search rules) (search rules) c.loop-k.invariant.3 (λ i j hi hj. c.embed_bit.ensures.after i j (search rules) (search rules)),
     )

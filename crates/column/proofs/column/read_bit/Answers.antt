@@ -3,13 +3,13 @@ use Rattle.std.proofs.Common.{◌+◌, rules}
 use Rattle.column.proofs.Spelled.{spelled_more, spelled_below}
 use Rattle.column.proofs.column.read_bit.Goals as goal
 
-pub overflow-mul-result : goal.overflow-mul-result
-overflow-mul-result g c =
+pub overflow_mul-result : goal.overflow_mul-result
+overflow_mul-result g c =
     let small = spelled_below (g.R.Raster.at c.args.slab.now (c.args.window.row + c.args.row)) c.args.window.word c.args.k (search rules) in
     search rules
 
-pub overflow-add-result : goal.overflow-add-result
-overflow-add-result g c =
+pub overflow_add-result : goal.overflow_add-result
+overflow_add-result g c =
     let small = spelled_below (g.R.Raster.at c.args.slab.now (c.args.window.row + c.args.row)) c.args.window.word c.args.k (search rules) in
     search rules
 

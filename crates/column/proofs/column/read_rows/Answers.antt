@@ -7,7 +7,7 @@ use Rattle.column.proofs.column.read_rows.Goals as goal
 pub loop-i-preserved : goal.loop-i-preserved
 loop-i-preserved g c =
     let row = row_of (g.R.Raster.at c.args.slab.now) c.args.window in
-    let read : c.in-ok-rows.field-0 ≡ row c.loop-i.i = search rules in
+    let read : c.in_ok-rows.field-0 ≡ row c.loop-i.i = search rules in
     (search rules, rw read (fill_by_more row c.loop-i.rows c.loop-i.i 0 (search rules) c.loop-i.invariant.1))
 
 pub returns : goal.returns

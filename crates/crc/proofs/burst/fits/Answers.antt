@@ -7,8 +7,8 @@ pub returns : goal.returns
 returns c =
     let rows = c.args.rows.now in
     let block : Block rows = record { long = c.told-rows; narrow = λ i _. c.fits-rows i } in
-    let r = c.is-fitting.result in
-    let e = c.is-fitting.ensures in
+    let r = c.is_fitting.result in
+    let e = c.is_fitting.ensures in
     let d = Decides-at r (check_fits rows) e (fitting_decides rows) in
     record {
       value = e;

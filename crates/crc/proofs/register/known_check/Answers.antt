@@ -5,4 +5,4 @@ use Rattle.crc.proofs.register.known_check.Goals as goal
 
 pub returns : goal.returns
 unfolding run word_bits bits_of
-returns c = record { value = c.of-digits.ensures; known = c.of-digits.ensures ∙ refl }
+returns c = record { value = c.of_digits.ensures; known = c.of_digits.ensures ∙ refl }

@@ -8,8 +8,8 @@ loop-byte-preserved c =
     let bytes = c.args.bytes.now in
     let i = c.loop-byte.byte-index in
     let register = c.loop-byte.register in
-    let fed = c.fed-byte-register.ensures ∙ sym (byte_enters register (get_or bytes i 0) (search rules) (search rules)) in
-    (search rules, drop_more_run 8 register c.fed-byte-register.result bytes i (search rules) fed ∙ c.loop-byte.invariant.1)
+    let fed = c.fed_byte-register.ensures ∙ sym (byte_enters register (get_or bytes i 0) (search rules) (search rules)) in
+    (search rules, drop_more_run 8 register c.fed_byte-register.result bytes i (search rules) fed ∙ c.loop-byte.invariant.1)
 
 pub returns : goal.returns
 returns c = drop_all_run 8 c.loop-byte.register c.args.bytes.now c.loop-byte.byte-index (search rules) ∙ c.loop-byte.invariant.1

@@ -5,9 +5,9 @@ use Rattle.extractor.proofs.delivery.deliver.Goals as goal
 
 pub returns : goal.returns
 returns c =
-    let e = c.deliver-elements.ensures in
+    let e = c.deliver_elements.ensures in
     record {
       answer = e.answer;
       image = e.image;
-      accepts = Decides-at (is_ok c.deliver-elements.result) _ (ap is_ok e.answer) (delivery_accepts c.args.table.now.slots.now e.back);
+      accepts = Decides-at (is_ok c.deliver_elements.result) _ (ap is_ok e.answer) (delivery_accepts c.args.table.now.slots.now e.back);
     }

@@ -16,12 +16,12 @@ returns c =
     let slots = c.args.table.now.slots.now in
     let bytes = c.join.result in
     let made : delivering slots ≡ receiving bytes =
-    ap (λ (r : Result (List ℕ) Fault). then r (λ elements. receiving (joined elements))) (sym c.collect.ensures ∙ c.in-ok-elements.was)
+    ap (λ (r : Result (List ℕ) Fault). then r (λ elements. receiving (joined elements))) (sym c.collect.ensures ∙ c.in_ok-elements.was)
     ∙ ap receiving (sym c.join.ensures.bytes) in
     record {
       answer = c.receive.ensures.answer ∙ sym (done_then (judged bytes) bytes) ∙ ap done (sym made);
       back = λ elements e.
-          let same : c.in-ok-elements.elements ≡ elements = let h = c.collect.ensures in let k = c.in-ok-elements.was in cc in
+          let same : c.in_ok-elements.elements ≡ elements = let h = c.collect.ensures in let k = c.in_ok-elements.was in cc in
           subst (λ (es : List ℕ). elements_of (joined es) ≡ es) same (ap elements_of (sym c.join.ensures.bytes) ∙ c.join.ensures.back);
       image = c.receive.ensures.image ∙ ap (λ (r : Result (List ℕ) Fault). overwritten r c.args.image.now.bytes) (sym made);
     }

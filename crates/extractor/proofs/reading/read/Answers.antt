@@ -9,9 +9,9 @@ returns g c =
     let rows = g.R.Raster.rows slab in
     let words = g.R.Raster.words slab in
     let at = g.R.Raster.at slab in
-    let e = c.read-numbered.ensures in
+    let e = c.read_numbered.ensures in
     record {
       answer = e;
-      accepts = Decides-at (is_ok c.read-numbered.result) _ (ap is_ok e) (reading_accepts c.args.column rows words at c.args.number);
+      accepts = Decides-at (is_ok c.read_numbered.result) _ (ap is_ok e) (reading_accepts c.args.column rows words at c.args.number);
       burst = λ b. ap is_ok e ∙ reading_burst c.args.column rows words at c.args.number b;
     }

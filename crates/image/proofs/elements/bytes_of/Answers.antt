@@ -7,7 +7,7 @@ use Rattle.image.proofs.elements.bytes_of.Goals as goal
 pub loop-k-preserved : goal.loop-k-preserved
 loop-k-preserved c =
     let byte = byte_of c.args.elements.now in
-    (search rules, rw c.byte-of.ensures (fill_by_more byte c.loop-k.bytes c.loop-k.k 0 (search rules) c.loop-k.invariant.1))
+    (search rules, rw c.byte_of.ensures (fill_by_more byte c.loop-k.bytes c.loop-k.k 0 (search rules) c.loop-k.invariant.1))
 
 pub returns : goal.returns
 unfolding joined

@@ -8,7 +8,7 @@ use Rattle.image.proofs.elements.elements_of.Goals as goal
 pub loop-i-preserved : goal.loop-i-preserved
 loop-i-preserved c =
     let element = element_of c.args.bytes.now in
-    (search rules, rw c.element-of.ensures (fill_by_more element c.loop-i.elements c.loop-i.i 0 (search rules) c.loop-i.invariant.1))
+    (search rules, rw c.element_of.ensures (fill_by_more element c.loop-i.elements c.loop-i.i 0 (search rules) c.loop-i.invariant.1))
 
 all : (c : goal.After-loop-i) → c.loop-i.elements ≡ elements_of c.args.bytes.now
 unfolding elements_of

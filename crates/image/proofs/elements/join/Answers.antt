@@ -8,8 +8,8 @@ returns c =
     let elements = c.args.elements.now in
     let e : Elements elements = record { long = c.told-elements; narrow = λ i _. c.fits-elements i } in
     record {
-      bytes = c.bytes-of.ensures;
-      back = ap elements_of c.bytes-of.ensures ∙ elements_joined elements e;
+      bytes = c.bytes_of.ensures;
+      back = ap elements_of c.bytes_of.ensures ∙ elements_joined elements e;
       joining = joining_undoes;
       taking = taking_undoes;
     }

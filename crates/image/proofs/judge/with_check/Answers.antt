@@ -5,4 +5,4 @@ use Rattle.image.proofs.judge.with_check.Goals as goal
 pub returns : goal.returns
 unfolding with_check
 returns c =
-    simp (c.to-be-bytes-check.ensures, c.copy-from-slice.ensures.after, c.of-bytes.ensures) (four_set c.args.data.now _ _ _ _ c.requires)
+    simp (c.to_be_bytes-check.ensures, c.copy_from_slice.ensures.after, c.of_bytes.ensures) (four_set c.args.data.now _ _ _ _ c.requires)

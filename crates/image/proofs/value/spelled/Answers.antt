@@ -6,11 +6,11 @@ use Rattle.image.proofs.value.spelled.Goals as goal
 pub loop-n-init : goal.loop-n-init
 loop-n-init c = sym (spelled_none c.args.bytes.now c.args.first)
 
-pub overflow-mul-number : goal.overflow-mul-number
-overflow-mul-number c = omega (arith, spelled_fits c.args.bytes.now c.args.first c.loop-n.n (omega arith))
+pub overflow_mul-number : goal.overflow_mul-number
+overflow_mul-number c = omega (arith, spelled_fits c.args.bytes.now c.args.first c.loop-n.n (omega arith))
 
-pub overflow-add-number : goal.overflow-add-number
-overflow-add-number c =
+pub overflow_add-number : goal.overflow_add-number
+overflow_add-number c =
     let b : bit_of c.args.bytes.now (c.args.first + c.loop-n.n) < 2 = omega arith in
     omega (arith, spelled_fits c.args.bytes.now c.args.first c.loop-n.n (omega arith))
 

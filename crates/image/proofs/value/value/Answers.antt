@@ -6,6 +6,6 @@ use Rattle.image.proofs.value.value.Goals as goal
 pub returns : goal.returns
 unfolding value_of
 returns c =
-    let e = c.parameter-first-bit.ensures.is in
+    let e = c.parameter-first_bit.ensures.is in
     c.spelled.ensures
     ∙ ap₂ (spelled c.args.bytes.now) (c.from.ensures ∙ ap (λ (p : Parameter). p.0) e) (c.from-2.ensures ∙ ap (λ (p : Parameter). p.1) e)

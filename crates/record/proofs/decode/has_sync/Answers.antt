@@ -3,4 +3,4 @@ use Rattle.record.proofs.decode.has_sync.Goals as goal
 
 pub returns : goal.returns
 unfolding has_sync
-returns c = c.begins-with-sync.ensures
+returns c = c.begins_with_sync.ensures

@@ -3,4 +3,4 @@ use Rattle.record.proofs.decode.reserved_clear.Goals as goal
 
 pub returns : goal.returns
 unfolding reserved_clear
-returns c = c.ends-clear.ensures
+returns c = c.ends_clear.ensures

@@ -7,22 +7,22 @@ use Rattle.record.specs.Laws.{Fitting, Formed}
 use Rattle.record.proofs.Undoing.{always_fitting, encoding_undoes}
 use Rattle.record.proofs.decode.spelt.Goals as goal
 
-formed : (c : goal.After-record-of) → has_sync c.args.rows.now ≡ true → reserved_clear c.args.rows.now ≡ true → Formed c.args.rows.now
+formed : (c : goal.After-record_of) → has_sync c.args.rows.now ≡ true → reserved_clear c.args.rows.now ≡ true → Formed c.args.rows.now
 formed c s r =
     let rows = c.args.rows.now in
     let below : (i : ℕ) → i < length rows → get_or rows i 0 < 2 ^ 16 = λ i h. search rules in
     record { count = search rules; narrow = All-from_get_or (λ row. row < 2 ^ 16) rows 0 below; sync = s; reserved = r }
 
-abbrev block_at : goal.After-record-of → Block
-block_at c = record { picture = c.picture-of.result; reference = c.reference-of.result; element = c.element-of.result; «record» = c.record-of.result }
+abbrev block_at : goal.After-record_of → Block
+block_at c = record { picture = c.picture_of.result; reference = c.reference_of.result; element = c.element_of.result; «record» = c.record_of.result }
 
-by_table : (c : goal.After-record-of) → block_at c ≡ block_of c.args.rows.now
+by_table : (c : goal.After-record_of) → block_at c ≡ block_of c.args.rows.now
 unfolding block_of
 by_table c = λ i. record {
-  picture = c.picture-of.ensures i;
-  reference = c.reference-of.ensures i;
-  element = c.element-of.ensures i;
-  «record» = c.record-of.ensures i;
+  picture = c.picture_of.ensures i;
+  reference = c.reference_of.ensures i;
+  element = c.element_of.ensures i;
+  «record» = c.record_of.ensures i;
 }
 
 pub returns : goal.returns

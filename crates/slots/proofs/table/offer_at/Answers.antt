@@ -2,6 +2,6 @@ use Rattle.std.proofs.Common.{rules}
 use Rattle.slots.proofs.Offering.{outside, unchanged}
 use Rattle.slots.proofs.table.offer_at.Goals as goal
 
-pub returns-in-err-slot : goal.returns-in-err-slot
-returns-in-err-slot g c =
-    record { answer = search rules; slots = unchanged _ _ _ _ (outside _ _ _ c.in-err-slot.ensures) }
+pub returns-in_err-slot : goal.returns-in_err-slot
+returns-in_err-slot g c =
+    record { answer = search rules; slots = unchanged _ _ _ _ (outside _ _ _ c.in_err-slot.ensures) }

@@ -5,21 +5,21 @@ use Rattle.slots.specs.declared.slot.Slot.TheVariants.{Empty}
 use Rattle.survey.specs.Picture.{bench_picture, surveyed, surveyed_by}
 use Rattle.survey.proofs.picture.survey_picture.Goals as goal
 
-pub survey-stripes-requires : goal.survey-stripes-requires
-survey-stripes-requires c =
+pub survey_stripes-requires : goal.survey_stripes-requires
+survey_stripes-requires c =
     let slots : length c.new-table.result.slots.now ≡ 135 = search rules in
-    (ap length c.start-bench.ensures.table ∙ length-replicate (length c.new-table.result.slots.now) Empty ∙ slots, search rules)
+    (ap length c.start_bench.ensures.table ∙ length-replicate (length c.new-table.result.slots.now) Empty ∙ slots, search rules)
 
 pub returns : goal.returns
 unfolding surveyed
 returns c =
-    let s = c.survey-stripes.ensures in
-    let g = c.in-ok-gathering.gathering in
-    let t = c.start-bench.new.table.slots.now in
+    let s = c.survey_stripes.ensures in
+    let g = c.in_ok-gathering.gathering in
+    let t = c.start_bench.new.table.slots.now in
     let slots : length c.new-table.result.slots.now ≡ 135 = search rules in
-    let same : Ok g ≡ Ok bench_picture = sym c.in-ok-gathering.was ∙ c.start-bench.ensures.answer in
+    let same : Ok g ≡ Ok bench_picture = sym c.in_ok-gathering.was ∙ c.start_bench.ensures.answer in
     let is : g ≡ bench_picture = cc same in
-    let empty : t ≡ replicate 135 Empty = c.start-bench.ensures.table ∙ ap (λ n. replicate n Empty) slots in
+    let empty : t ≡ replicate 135 Empty = c.start_bench.ensures.table ∙ ap (λ n. replicate n Empty) slots in
     record {
       answer = ap Ok (s.answer ∙ ap₂ (λ h x. surveyed_by h c.args.first.now c.args.second.now c.args.third.now x) is empty);
       first = s.first;

@@ -39,11 +39,11 @@ loop-column-preserved g c =
     let e = c.gather-answer.ensures in
     let said : c.gather-answer.result ≡ answers n =
     e.answer ∙ ap₂ (λ (x y : ℕ). gathered c.args.gathering.now c.args.stripe n (m.rows slab) (m.words slab) (m.at slab) x y) i.3 i.4 in (
-      c.told-tally.ensures ∙ tallied_more answers n c.loop-column.tally c.gather-answer.result c.kind-of.result i.0 said c.kind-of.ensures,
+      c.told-tally.ensures ∙ tallied_more answers n c.loop-column.tally c.gather-answer.result c.kind_of.result i.0 said c.kind_of.ensures,
       e.table ∙ ap₂ (λ r s. settled r s (elements_after c.args.stripe n s)) said i.1 ∙ sym (elements_more answers c.args.stripe n slots),
       e.sheet ∙ ap₂ (λ r s. settled r s (sheet_after n s)) said i.2 ∙ sym (records_more answers n sheet),
       ap length e.table ∙ elements_length c.gather-answer.result c.args.stripe n _ ∙ i.3,
       ap length e.sheet ∙ records_length c.gather-answer.result n _ ∙ i.4,
-      e.table-name ∙ i.5,
-      e.sheet-name ∙ i.6,
+      e.table_name ∙ i.5,
+      e.sheet_name ∙ i.6,
     )

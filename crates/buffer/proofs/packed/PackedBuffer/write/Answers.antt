@@ -17,8 +17,8 @@ returns c =
       extent = refl;
       name = refl;
       bytes = record {
-        whole = packed_after m a.n h c.with-unit.result a.bit s.extent.rows s.extent.words a.row a.place c.requires.numbered.number refl c.with-unit.ensures c.requires.numbered.in_rows c.requires.numbered.in_words;
-        kept = packed_kept m a.n h c.with-unit.result a.bit refl c.with-unit.ensures hl (bytes_of s.extent) he;
-        after = λ x y hx hy. set_packed m a.n h c.with-unit.result a.bit refl c.with-unit.ensures hl s.extent.words a.row a.place x y c.requires.numbered.number c.requires.numbered.in_words hy;
+        whole = packed_after m a.n h c.with_unit.result a.bit s.extent.rows s.extent.words a.row a.place c.requires.numbered.number refl c.with_unit.ensures c.requires.numbered.in_rows c.requires.numbered.in_words;
+        kept = packed_kept m a.n h c.with_unit.result a.bit refl c.with_unit.ensures hl (bytes_of s.extent) he;
+        after = λ x y hx hy. set_packed m a.n h c.with_unit.result a.bit refl c.with_unit.ensures hl s.extent.words a.row a.place x y c.requires.numbered.number c.requires.numbered.in_words hy;
       };
     }

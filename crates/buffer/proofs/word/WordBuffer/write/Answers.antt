@@ -12,8 +12,8 @@ returns c =
       extent = refl;
       name = refl;
       cells = record {
-        whole = set_after s.memory.now a.i c.with-bit.result a.bit s.extent.rows s.extent.words a.row a.place c.requires.number c.with-bit.ensures c.requires.in_rows c.requires.in_words;
-        kept = set_kept s.memory.now a.i c.with-bit.result a.bit c.with-bit.ensures h _ c.requires.below;
-        after = λ x y hx hy. set_cell s.memory.now a.i c.with-bit.result a.bit c.with-bit.ensures h s.extent.words a.row a.place x y c.requires.number c.requires.in_words hy;
+        whole = set_after s.memory.now a.i c.with_bit.result a.bit s.extent.rows s.extent.words a.row a.place c.requires.number c.with_bit.ensures c.requires.in_rows c.requires.in_words;
+        kept = set_kept s.memory.now a.i c.with_bit.result a.bit c.with_bit.ensures h _ c.requires.below;
+        after = λ x y hx hy. set_cell s.memory.now a.i c.with_bit.result a.bit c.with_bit.ensures h s.extent.words a.row a.place x y c.requires.number c.requires.in_words hy;
       };
     }

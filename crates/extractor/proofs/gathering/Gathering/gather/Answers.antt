@@ -11,6 +11,6 @@ returns g c =
       table = e.table;
       sheet = e.sheet;
       burst = λ b. ap is_ok e.answer ∙ gathered_burst c.args.self.now c.args.stripe c.args.column (g.R.Raster.rows slab) (g.R.Raster.words slab) (g.R.Raster.at slab) (length c.args.table.now.slots.now) (length c.args.sheet.now.slots.now) b;
-      table-name = e.table-name;
-      sheet-name = e.sheet-name;
+      table_name = e.table_name;
+      sheet_name = e.sheet_name;
     }

@@ -5,14 +5,14 @@ use Rattle.column.proofs.Laws.{few_differ}
 use Rattle.inserter.specs.Place.{placing, placed_at}
 use Rattle.inserter.proofs.picture.Picture.place.Goals as goal
 
-pub returns-in-err-block : goal.returns-in-err-block
-returns-in-err-block g c =
+pub returns-in_err-block : goal.returns-in_err-block
+returns-in_err-block g c =
     let slab = c.args.slab.now in
     let at = g.R.Raster.at slab in
     let picture = c.args.self.now in
-    let refused : placing picture.format picture.first c.args.stripe c.args.column (g.R.Raster.rows slab) (g.R.Raster.words slab) c.args.image.now.bytes c.args.record.now ≡ Err c.in-err-block.field-0.0 =
+    let refused : placing picture.format picture.first c.args.stripe c.args.column (g.R.Raster.rows slab) (g.R.Raster.words slab) c.args.image.now.bytes c.args.record.now ≡ Err c.in_err-block.field-0.0 =
     ap (λ (x : Extent). placing picture.format picture.first c.args.stripe c.args.column x.rows x.words c.args.image.now.bytes c.args.record.now) (sym c.extent.ensures)
-    ∙ sym c.block-for.ensures.answer ∙ c.in-err-block.was in
+    ∙ sym c.block_for.ensures.answer ∙ c.in_err-block.was in
     record {
       answer = search rules;
       rows = search rules;

@@ -7,5 +7,5 @@ pub returns : goal.returns
 unfolding fits_widths
 returns c =
     let r = c.args.self.now in
-    let same = c.all-fit.ensures in
+    let same = c.all_fit.ensures in
     record { answer = same; within = (λ fits. within r (sym same ∙ fits), λ all. same ∙ passes r all) }

@@ -3,4 +3,4 @@ use Rattle.record.proofs.record.Record.keeps_rules.Goals as goal
 
 pub returns : goal.returns
 unfolding keeps_rules
-returns c = c.all-kept.ensures
+returns c = c.all_kept.ensures

@@ -8,13 +8,13 @@ returns g c =
     let same = g.V.Exact.same in
     let exact = g.V.Exact.exact in
     let old = c.args.self.now.slots.now in
-    let new = c.offer-at.new.slots in
-    let e = c.offer-at.ensures in
+    let new = c.offer_at.new.slots in
+    let e = c.offer_at.ensures in
     record {
       answer = e.answer;
       slots = e.slots;
       name = search rules;
-      settled = settled_at same exact old new c.args.number c.args.value c.offer-at.result e.answer e.slots;
+      settled = settled_at same exact old new c.args.number c.args.value c.offer_at.result e.answer e.slots;
       others = others_at same old new c.args.number c.args.value e.slots;
       refused = refused_at same old new c.args.number c.args.value e.slots;
       run = offers_settle same exact;
