@@ -1,7 +1,7 @@
 """Hold the stored files of every program to what the reference computes.
 
-    python3 reference/whole/whole/check.py            compare: exit 1 and a diff if any differs
-    python3 reference/whole/whole/check.py --write    write the stored files
+    python3 reference/whole/check.py            compare: exit 1 and a diff if any differs
+    python3 reference/whole/check.py --write    write the stored files
 
 To add a case, add a line to CASES.
 """

@@ -1,8 +1,8 @@
 """Run the built programs on inputs that the gate does not store, and compare.
 
-    python3 reference/whole/whole/programs.py BIN
+    python3 reference/whole/programs.py BIN
 
-BIN is the folder of the built programs. `carry` is run on the sample, on short
+BIN is the folder of the built programs. `carry_picture` is run on the sample, on short
 and long inputs and on random words, with and without a file name; what it
 prints and what it writes have to be the reference's, byte for byte. `survey`
 is run on pictures that the reference's inserter made, some of them damaged

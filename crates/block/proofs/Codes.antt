@@ -1,13 +1,13 @@
 -- Encoding and decoding whole blocks.
-use Rattle.std.proofs.Common.{◌≡◌, ℕ, ◌+◌, ◌^◌, ◌<◌, ◌≤◌, Bool, true, false, cond, not, ltb, List, [], ◌∷◌, ◌++◌, length, get_or, take, is_ok, IfOk, Ok, Err, Decides, Result, sym, refl, ap, ◌∙◌, subst, inl, inr, arith, rules}
+use Rattle.std.proofs.Common.{◌≡◌, ℕ, ◌^◌, ◌<◌, ◌≤◌, Bool, true, false, not, ltb, List, length, get_or, take, is_ok, IfOk, Ok, Err, Decides, Result, sym, refl, ap, ◌∙◌, subst, inl, inr, arith}
 use lib.Seq.{take-append_seam}
 use Rattle.std.proofs.lemmas.Bool.Decides.{nat_tests}
 use Rattle.std.proofs.lemmas.Bool.{cases_Bool}
 use Rattle.std.proofs.ByRecursion.{All-from_get_or, All-get_or}
-use Rattle.std.specs.List.{AllByRecursion as All}
+use Rattle.std.specs.List.{AllByRecursion}
 use Rattle.fault.specs.declared.Fault.{Fault}
 use Rattle.fault.specs.declared.Fault.TheVariants.{ReferenceRange}
-use Rattle.crc.specs.Burst.{Rows, AlikeBut, Alone, CheckFits, check_fits, with_check}
+use Rattle.crc.specs.Burst.{Rows, CheckFits, check_fits, with_check}
 use Rattle.crc.proofs.Bursts.{fitting_decides, burst_never_passes, checked_fits}
 use Rattle.crc.proofs.Laws.{first_rows, checked_from_fits}
 use Rattle.record.specs.declared.record.Block.{Block}
@@ -53,7 +53,7 @@ module _ (rows : List ℕ) where
   accepts = (formed_if_accepted, λ w. rw (accepted_if_formed w))
 
 -- 14 narrow rows, as the record's laws want them
-all_narrow : (rows : List ℕ) → ((i : ℕ) → i < length rows → get_or rows i 0 < 2 ^ 16) → All (λ row. row < 2 ^ 16) rows
+all_narrow : (rows : List ℕ) → ((i : ℕ) → i < length rows → get_or rows i 0 < 2 ^ 16) → AllByRecursion (λ row. row < 2 ^ 16) rows
 all_narrow rows h = All-from_get_or (λ row. row < 2 ^ 16) rows 0 h
 
 data_formed : (rows : List ℕ) → Rows 16 rows → WellFormed rows → Formed (take 14 rows)

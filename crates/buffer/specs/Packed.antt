@@ -1,5 +1,5 @@
 -- The packed buffer: each five bytes hold four words, from the highest bit down, and a row begins where the one before it ends.
-use Rattle.std.specs.Prelude.{◌≡◌, ℕ, ◌+◌, ◌-◌, ◌*◌, ◌/◌, ◌%◌, ◌^◌, ◌<◌, ◌≤◌, Bool, cond, List, length, set, slice_index, slice_set, refl}
+use Rattle.std.specs.Prelude.{◌≡◌, ℕ, ◌+◌, ◌-◌, ◌*◌, ◌/◌, ◌%◌, ◌^◌, ◌<◌, ◌≤◌, Bool, cond, List, length, slice_index, slice_set, refl}
 use Rattle.std.proofs.Common.{arith, ◌∙◌}
 use Rattle.raster.specs.Meaning.{inside, replaced}
 

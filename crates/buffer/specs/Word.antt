@@ -1,5 +1,5 @@
 -- The word buffer: a word in each sixteen-bit cell, row after row.
-use Rattle.std.specs.Prelude.{◌≡◌, ℕ, ◌+◌, ◌*◌, ◌/◌, ◌%◌, ◌<◌, ◌≤◌, Bool, cond, List, length, set, slice_index, slice_set, refl}
+use Rattle.std.specs.Prelude.{◌≡◌, ℕ, ◌+◌, ◌*◌, ◌/◌, ◌%◌, ◌<◌, ◌≤◌, Bool, cond, List, length, slice_index, slice_set, refl}
 use Rattle.std.proofs.Common.{arith, ◌∙◌}
 use Rattle.raster.specs.Meaning.{inside, with_bit, replaced}
 

@@ -1,5 +1,5 @@
 -- The block of each macroblock of the bench picture.
-use Rattle.std.specs.Prelude.{ℕ, ◌+◌, ◌*◌, ◌%◌, ◌^◌, Bool, true, false, ℤ, pos, ◌-ℤ◌, ◌==◌}
+use Rattle.std.specs.Prelude.{ℕ, ◌+◌, ◌*◌, ◌%◌, ◌^◌, true, false, pos, ◌-ℤ◌, ◌==◌}
 use Rattle.record.specs.declared.record.Record.{Record}
 use Rattle.record.specs.declared.record.PictureFlags.{PictureFlags}
 use Rattle.record.specs.declared.record.Block.{Block}

@@ -1,9 +1,7 @@
 -- What the blocks of the picture hold.
-use Rattle.std.proofs.Common.{◌≡◌, ℕ, ◌+◌, ◌*◌, ◌/◌, ◌%◌, ◌<◌, Bool, true, false, cond, eqb, ltb, List, Ok, refl, ap, ◌∙◌, ap₂, arith}
-use Rattle.std.proofs.lemmas.Bool.Decides.{nat_tests}
+use Rattle.std.proofs.Common.{◌≡◌, ℕ, ◌+◌, ◌*◌, ◌/◌, ◌%◌, ◌<◌, true, List, Ok, refl, ap, ◌∙◌, ap₂, arith}
 use Rattle.record.specs.declared.record.Record.{Record}
 use Rattle.record.specs.declared.record.PictureFlags.{PictureFlags}
-use Rattle.record.specs.declared.record.Block.{Block}
 use Rattle.record.specs.Rules.{fits_widths, keeps_rules, checked}
 use Rattle.format.specs.declared.table.Format.TheVariants.{Bench}
 use Rattle.format.specs.Formats.{reference_of, index_of}

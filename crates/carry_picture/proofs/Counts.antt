@@ -5,7 +5,6 @@ use Rattle.slots.specs.declared.slot.Slot.TheVariants.{Empty}
 use Rattle.slots.specs.declared.slot.State.{State}
 use Rattle.slots.specs.Slots.{state_of, same_state}
 use Rattle.extractor.specs.declared.gathering.Gathering.{Gathering}
-use Rattle.carry_picture.specs.declared.line.PictureLine.{PictureLine}
 use Rattle.carry_picture.specs.Picture.{bench_picture, held_among, held_in, table_of, good_of, gathered_of}
 
 pub held_none : (slots : List (Slot ℕ)) → held_among slots 0 ≡ 0

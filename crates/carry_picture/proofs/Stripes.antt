@@ -1,15 +1,15 @@
 -- One column more, embedded or read.
-use Rattle.std.proofs.Common.{◌≡◌, ℕ, zero, suc, ◌+◌, ◌*◌, ◌/◌, ◌%◌, ◌<◌, ◌≤◌, Bool, true, false, cond, ◌&&◌, eqb, ltb, leb, List, [], ◌∷◌, Ok, Decides, sym, refl, ap, ◌∙◌, subst, inl, inr, add-one, arith}
+use Rattle.std.proofs.Common.{◌≡◌, ℕ, ◌+◌, ◌*◌, ◌%◌, ◌<◌, ◌≤◌, true, false, ltb, List, Ok, sym, refl, ap, ◌∙◌, subst, inl, inr, arith}
 use Rattle.std.proofs.lemmas.Bool.{cases_eq}
-use Rattle.std.proofs.lemmas.Bool.Decides.{nat_tests, Decides-eqb, Decides-and, Decides-like, same_from_decides}
-use Rattle.column.specs.Column.{within, carrying, carried_rows}
+use Rattle.std.proofs.lemmas.Bool.Decides.{nat_tests}
+use Rattle.column.specs.Column.{carrying, carried_rows}
 use Rattle.block.specs.Code.{decoded}
 use Rattle.block.specs.Slab.{done}
 use Rattle.record.specs.declared.record.Record.{Record}
 use Rattle.record.specs.Rules.{checked}
 use Rattle.format.specs.declared.table.Format.{Format}
 use Rattle.format.specs.declared.table.Format.TheVariants.{Bench}
-use Rattle.format.specs.Formats.{is_slab, in_format}
+use Rattle.format.specs.Formats.{in_format}
 use Rattle.image.specs.Image.{is_frame}
 use Rattle.inserter.specs.Place.{block_for, placing}
 use Rattle.extractor.specs.Reading.{reading}

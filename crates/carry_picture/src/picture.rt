@@ -28,7 +28,7 @@ pub(crate) fn carry_picture(
 ) -> Result<Carried, Fault>
     requires inputs { (length first_in.old ≡ 28800) × ((length second_in.old ≡ 28800) × (length third_in.old ≡ 28800)) }
     requires slabs { (length first.old ≡ 28800) × ((length second.old ≡ 28800) × (length third.old ≡ 28800)) }
-    ensures answer { result ≡ Ok (record { first = record { stripe = 0; moved = differing (packed_at first_in.old 1440) (packed_at first.exit.now 1440) 16 1440; read = 45 }; second = record { stripe = 1; moved = differing (packed_at second_in.old 1440) (packed_at second.new 1440) 16 1440; read = 45 }; third = record { stripe = 2; moved = differing (packed_at third_in.old 1440) (packed_at third.new 1440) 16 1440; read = 45 } }) }
+    ensures answer { result ≡ Ok (record { first = record { stripe = 0; moved = differing (packed_at first_in.old 1440) (packed_at first.new 1440) 16 1440; read = 45 }; second = record { stripe = 1; moved = differing (packed_at second_in.old 1440) (packed_at second.new 1440) 16 1440; read = 45 }; third = record { stripe = 2; moved = differing (packed_at third_in.old 1440) (packed_at third.new 1440) 16 1440; read = 45 } }) }
     ensures first_in { first_in.new ≡ first_in.old }
     ensures second_in { second_in.new ≡ second_in.old }
     ensures third_in { third_in.new ≡ third_in.old }

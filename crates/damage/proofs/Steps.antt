@@ -1,5 +1,5 @@
 -- What the contracts of place, gather, deliver and seal promise is the step of every chain that shows what was lent.
-use Rattle.std.proofs.Common.{◌≡◌, ℕ, ◌/◌, ◌<◌, List, ◌∷◌, length, Some, Ok, Err, Option, Result, sym, refl, ap, ◌∙◌, subst, ap₂, inl, inr, arith}
+use Rattle.std.proofs.Common.{◌≡◌, ℕ, ◌/◌, ◌<◌, List, ◌∷◌, length, Ok, Err, Option, Result, sym, refl, ap, ◌∙◌, subst, ap₂, inl, inr, arith}
 use Rattle.std.proofs.lemmas.Bool.{cases_eq}
 use Rattle.fault.specs.declared.Fault.{Fault}
 use Rattle.record.specs.declared.record.Record.{Record}
@@ -12,7 +12,7 @@ use Rattle.inserter.specs.Place.{placing, placed_at}
 use Rattle.extractor.specs.declared.gathering.Gathering.{Gathering}
 use Rattle.extractor.specs.Gather.{settled, gathered, elements_after, sheet_after}
 use Rattle.extractor.specs.Delivery.{delivering}
-use Rattle.damage.specs.Chain.{Grid, Picture, Chain, Image, with_slab, with_sheet, with_table, with_image, with_words}
+use Rattle.damage.specs.Chain.{Grid, Picture, Chain, with_slab, with_sheet, with_table, with_image, with_words}
 use Rattle.damage.specs.Calls.{Call, Answer, imaged, placed, brought, place_answer, placing_on, gathered_on, place_after, gather_after}
 use Rattle.damage.specs.Rasters.{Shows, Like, Lives, rests, moves, heard}
 use Rattle.damage.specs.Ties.{Steps, ended, onward, StepsMakeARun, PlaceStep, GatherStep, DeliverStep, SealStep, Places, Gathers, Seals}

@@ -11,7 +11,7 @@ use Rattle.column.specs.Column.{carried_rows}
 use Rattle.record.specs.declared.record.Record.{Record}
 use Rattle.record.specs.declared.record.Block.{Block}
 use Rattle.slots.specs.declared.slot.Slot.{Slot}
-use Rattle.slots.specs.declared.slot.Slot.TheVariants.{Empty, Held, Disputed}
+use Rattle.slots.specs.declared.slot.Slot.TheVariants.{Empty, Held}
 use Rattle.slots.specs.declared.slot.State.{State}
 use Rattle.slots.specs.Exact.{same_flag, numbers_exact}
 use Rattle.slots.specs.Slots.{state_of, place_of, offered, offered_at, cleared, lowest_in}
@@ -31,7 +31,7 @@ use Rattle.inserter.proofs.Placings.{passed_ok, went_on}
 use Rattle.extractor.specs.declared.gathering.Gathering.{Gathering}
 use Rattle.extractor.specs.Gather.{settled, starting, admitted, expected, elements_after}
 use Rattle.extractor.specs.Delivery.{found, held_in, collected, delivering}
-use Rattle.damage.specs.Chain.{Grid, Picture, Chain, Image, with_table, with_image}
+use Rattle.damage.specs.Chain.{Picture, Chain, Image, with_table, with_image}
 use Rattle.damage.specs.Calls.{Call, seal, opens, place, close, start, gather, deliver, paint, imaged, started, brought, after, gathered_on, open_after, close_after, place_after, start_after, gather_after}
 use Rattle.damage.specs.Runs.{run}
 use Rattle.damage.specs.Damage.{Undisturbed, Brings, Gathered, Survives, gathering_of, start_of, since}

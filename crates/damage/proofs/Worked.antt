@@ -6,7 +6,7 @@ use Rattle.std.proofs.lemmas.List.{map-append, take-append-drop, drop_more, leng
 use Rattle.std.proofs.lemmas.List.FromFn.{length-map-range_with_len, get_or-map-range_with_len}
 use Rattle.std.proofs.lemmas.List.Elements.{filter-append}
 use Rattle.std.proofs.ByRecursion.{kept_by_passes, All-weaker}
-use Rattle.std.specs.List.{AllByRecursion as All}
+use Rattle.std.specs.List.{AllByRecursion}
 use Rattle.fault.specs.declared.Fault.TheVariants.{FirstReference, Length}
 use Rattle.crc.specs.Register as Register
 use Rattle.column.specs.Scramble.{parity, unscrambled}
@@ -32,7 +32,7 @@ use Rattle.inserter.specs.Place.{agrees, block_for, placing, placed_at}
 use Rattle.inserter.proofs.Placings.{passed_ok, went_on}
 use Rattle.extractor.specs.declared.gathering.Gathering.{Gathering}
 use Rattle.extractor.specs.Gather.{starting}
-use Rattle.damage.specs.Chain.{Grid, Picture, Chain, Image, with_words, painted}
+use Rattle.damage.specs.Chain.{Picture, Chain, Image, with_words, painted}
 use Rattle.damage.specs.Calls.{Call, opens, place, close, gather, paint, placed, started, answer, after, placing_on, gathered_on, place_answer, place_after, open_after}
 use Rattle.damage.specs.Runs.{New, run, carried_by, LastPlaced}
 use Rattle.damage.specs.Damage.{Intact, Undisturbed, Brings, Gathered, gathering_of, start_of, since}
@@ -148,7 +148,7 @@ module _ (f : Format) (p : Picture) (image : Image) (r : Record) (frame : agrees
       arrives s c i xs ys (after ch (place m.0 m.1 image r)) (noted ch (place m.0 m.1 image r) s c last) (ready ch m.0 m.1 h)
 
 -- stains of other macroblocks, and gathers, leave the last placing
-unstained : (S : ℕ → ℕ → Bool) (s c : ℕ) → S s c ≡ false → (stains : List Stain) → All (λ x. S x.stripe x.column ≡ true) stains → (last : Option Placing) (ch : Chain) → last_from last ch (paints_of stains) s c ≡ last
+unstained : (S : ℕ → ℕ → Bool) (s c : ℕ) → S s c ≡ false → (stains : List Stain) → AllByRecursion (λ x. S x.stripe x.column ≡ true) stains → (last : Option Placing) (ch : Chain) → last_from last ch (paints_of stains) s c ≡ last
 unstained S s c o [] a last ch = refl
 unstained S s c o (x ∷ stains) a last ch =
     ap (λ z. last_from z (after ch (paint x.stripe x.column x.left)) (paints_of stains) s c)
@@ -163,7 +163,7 @@ quiet g t [] last ch s c = refl
 quiet g t (m ∷ ms) last ch s c = quiet g t ms last (after ch (gather g t m.0 m.1)) s c
 
 -- a call among gathers is one, and so are those before it
-gather_among : (P : ℕ × ℕ → Type 0) (g : Gathering) (t : ℕ) (ms : List (ℕ × ℕ)) → All P ms → (x y : List Call) (call : Call) → gathers_of ms g t ≡ x ++ call ∷ y →
+gather_among : (P : ℕ × ℕ → Type 0) (g : Gathering) (t : ℕ) (ms : List (ℕ × ℕ)) → AllByRecursion P ms → (x y : List Call) (call : Call) → gathers_of ms g t ≡ x ++ call ∷ y →
     (ns : List (ℕ × ℕ)) × (x ≡ gathers_of ns g t) × (m : ℕ × ℕ) × (call ≡ gather g t m.0 m.1) × P m
 gather_among P g t [] a [] y call e = absurd (let z : ◌≡◌ {A = ℕ} 0 1 = cc in omega arith)
 gather_among P g t [] a (k ∷ x) y call e = absurd (let z : ◌≡◌ {A = ℕ} 0 1 = cc in omega arith)
@@ -185,7 +185,7 @@ open_ready new n t fitted image frame r lawful = go new.picture n.none_open
 
 -- One picture whose stains are all in a set.
 module _ (new : Chain) (n : New new) (t : ℕ) (fitted : Fitted new t) (image : Image) (frame : agrees (is_frame image.bytes) (frame_of new.format) ≡ true) (r : Record) (lawful : checked r ≡ Ok tt)
-    (S : ℕ → ℕ → Bool) (stains : List Stain) (stained : All (λ x. S x.stripe x.column ≡ true) stains) where
+    (S : ℕ → ℕ → Bool) (stains : List Stain) (stained : AllByRecursion (λ x. S x.stripe x.column ≡ true) stains) where
   abbrev f : Format
   f = new.format
 
@@ -244,7 +244,7 @@ module _ (new : Chain) (n : New new) (t : ℕ) (fitted : Fitted new t) (image : 
       (is_ok (gathered_on (run new (since new earlier t p x)) g t s c) ≡ false)
       ⊎ Brings (gathered_on (run new (since new earlier t p x)) g t s c) (element_of image.bytes (index_of s c))
 
-  pub gathered_so : (P : ℕ × ℕ → Type 0) (ms : List (ℕ × ℕ)) → All P ms → ((s c : ℕ) → in_format f s c ≡ true → S s c ≡ false → Within ms (s, c)) →
+  pub gathered_so : (P : ℕ × ℕ → Type 0) (ms : List (ℕ × ℕ)) → AllByRecursion P ms → ((s c : ℕ) → in_format f s c ≡ true → S s c ≡ false → Within ms (s, c)) →
       ((ns : List (ℕ × ℕ)) (m : ℕ × ℕ) → P m → S m.0 m.1 ≡ true → Safe (gathers_of ns g t) m.0 m.1) →
       Gathered new earlier (gathers_of ms g t) t p image S
   gathered_so P ms all each safe = record {
@@ -263,7 +263,7 @@ module _ (new : Chain) (n : New new) (t : ℕ) (fitted : Fitted new t) (image : 
   }
 
   -- none inside is gathered
-  comes_so : count f S < carriers_of f → (ms : List (ℕ × ℕ)) → All (λ m. S m.0 m.1 ≡ false) ms → ((s c : ℕ) → in_format f s c ≡ true → S s c ≡ false → Within ms (s, c)) →
+  comes_so : count f S < carriers_of f → (ms : List (ℕ × ℕ)) → AllByRecursion (λ m. S m.0 m.1 ≡ false) ms → ((s c : ℕ) → in_format f s c ≡ true → S s c ≡ false → Within ms (s, c)) →
       Delivers new (one_picture new t image r stains ms) t image.bytes
   comes_so few ms none each i =
       survives new n earlier (gathers_of ms g t) t p image S i few
@@ -277,7 +277,7 @@ none_few Field1080 = lit< tt
 none_few Frame720 = lit< tt
 none_few Bench = lit< tt
 
-pub all_none : (ms : List (ℕ × ℕ)) → All (λ m. false ≡ false) ms
+pub all_none : (ms : List (ℕ × ℕ)) → AllByRecursion (λ m. false ≡ false) ms
 all_none [] = tt
 all_none (m ∷ ms) = (refl, all_none ms)
 

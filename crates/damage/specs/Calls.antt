@@ -11,7 +11,7 @@ use Rattle.inserter.specs.Place.{placing, placed_at}
 use Rattle.extractor.specs.declared.gathering.Gathering.{Gathering}
 use Rattle.extractor.specs.Gather.{settled, starting, gathered, elements_after, sheet_after}
 use Rattle.extractor.specs.Delivery.{delivering}
-use Rattle.damage.specs.Chain.{Grid, Picture, Chain, Image, with_picture, with_slab, with_sheet, with_table, with_image, with_words, painted}
+use Rattle.damage.specs.Chain.{Picture, Chain, Image, with_picture, with_slab, with_sheet, with_table, with_image, with_words, painted}
 
 -- Slabs and sheets go by their stripe, tables and images by number. A place has its image as an argument, by its bytes at the call. A gather
 -- has the gathering that a start answered. Paint is no call: others leave other words in a macroblock.

@@ -8,8 +8,8 @@ use Rattle.format.specs.Formats.{number_of, columns_of, stripes_of, carriers_of,
 use Rattle.format.specs.Carriers.{count}
 use Rattle.image.specs.Elements.{element_of}
 use Rattle.extractor.specs.declared.gathering.Gathering.{Gathering}
-use Rattle.damage.specs.Chain.{Grid, Picture, Chain, Image}
-use Rattle.damage.specs.Calls.{Call, seal, opens, place, close, start, gather, deliver, paint, Answer, imaged, started, brought, answer, after, gathered_on}
+use Rattle.damage.specs.Chain.{Picture, Chain, Image}
+use Rattle.damage.specs.Calls.{Call, seal, opens, place, close, start, gather, deliver, paint, imaged, started, brought, answer, after, gathered_on}
 use Rattle.damage.specs.Runs.{New, run, answers, slot_of, carried_by, NonePainted, LastPlaced, carried_then}
 use Rattle.damage.specs.Rasters.{Covers}
 

@@ -6,7 +6,7 @@ use Rattle.slots.specs.declared.slot.Slot.{Slot}
 use Rattle.slots.specs.declared.slot.Slot.TheVariants.{Empty}
 use Rattle.slots.specs.Slots.{cleared}
 use Rattle.inserter.specs.Count.{begun}
-use Rattle.damage.specs.Chain.{Grid, Picture, Chain, Image}
+use Rattle.damage.specs.Chain.{Picture, Chain, Image}
 use Rattle.damage.specs.Calls.{Call, seal, opens, place, close, start, gather, deliver, paint, Answer, placed, answer, after}
 
 -- A chain before the first call: its inserter is new and was accepted, and the sheets are cleared. Slabs have any extents and any words,

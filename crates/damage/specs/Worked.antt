@@ -2,7 +2,7 @@
 -- picture comes back, stained or not, and a turned bit is noticed. Others have the law's own premises as facts: `Gathered` in two
 -- pictures of which every macroblock is gathered, and those of NeverUnnoticed wherever a bit is turned.
 use Rattle.std.specs.Prelude.{◌≡◌, ℕ, ◌+◌, ◌-◌, ◌*◌, ◌/◌, ◌%◌, ◌<◌, ◌≤◌, Bool, true, false, cond, not, ◌&&◌, List, [], ◌∷◌, ◌++◌, map, length, replicate, is_ok, None, Ok, filter, Result, ◌==◌}
-use Rattle.std.specs.List.{range_with_len, AllByRecursion as All}
+use Rattle.std.specs.List.{range_with_len, AllByRecursion}
 use Rattle.fault.specs.declared.Fault.{Fault}
 use Rattle.crc.specs.Burst.{AlikeBut}
 use Rattle.record.specs.declared.record.Record.{Record}
@@ -17,7 +17,7 @@ use Rattle.image.specs.Elements.{element_of}
 use Rattle.image.specs.Image.{is_frame, blank_image}
 use Rattle.inserter.specs.Place.{agrees}
 use Rattle.extractor.specs.declared.gathering.Gathering.{Gathering}
-use Rattle.damage.specs.Chain.{Grid, Picture, Chain, Image}
+use Rattle.damage.specs.Chain.{Picture, Chain, Image}
 use Rattle.damage.specs.Calls.{Call, opens, place, close, gather, deliver, paint, imaged, answer, after, gathered_on}
 use Rattle.damage.specs.Runs.{New, run, carried_by, LastPlaced, carried_then}
 use Rattle.damage.specs.Damage.{Brings, Gathered, gathering_of, since}
@@ -81,7 +81,7 @@ abbrev pub ComesBackStained : Type 0
 ComesBackStained =
     (new : Chain) → New new → (t : ℕ) → Fitted new t →
     (image : Image) → agrees (is_frame image.bytes) (frame_of new.format) ≡ true → (r : Record) → checked r ≡ Ok tt →
-    (S : ℕ → ℕ → Bool) → count new.format S < carriers_of new.format → (stains : List Stain) → All (λ x. S x.stripe x.column ≡ true) stains →
+    (S : ℕ → ℕ → Bool) → count new.format S < carriers_of new.format → (stains : List Stain) → AllByRecursion (λ x. S x.stripe x.column ≡ true) stains →
     Delivers new (one_picture new t image r stains (outside S (macroblocks new.format))) t image.bytes
 
 -- a chain of a format, fitted to it, with grey slabs

@@ -1,5 +1,5 @@
 -- Deliver accepts exactly the tables that hold all elements of a sealed image.
-use Rattle.std.proofs.Common.{◌≡◌, ℕ, ◌<◌, true, false, not, eqb, List, map, length, get_or, is_ok, Some, None, Ok, Err, Decides, Option, Result, sym, refl, ap, ◌∙◌, subst, arith}
+use Rattle.std.proofs.Common.{◌≡◌, ℕ, ◌<◌, true, not, eqb, List, map, length, get_or, is_ok, Some, None, Ok, Err, Decides, Option, Result, sym, refl, ap, ◌∙◌, subst, arith}
 use lib.ListN.{length-map}
 use Rattle.std.proofs.lemmas.List.{same_lists, get_or-map, get_or_default}
 use Rattle.std.proofs.lemmas.Bool.{eqb-true, eq-eqb}
@@ -13,8 +13,8 @@ use Rattle.slots.proofs.Searching.{lowest_holds}
 use Rattle.block.specs.Code.{then}
 use Rattle.block.proofs.Codes.{not-false}
 use Rattle.format.specs.Formats.{element_count}
-use Rattle.image.specs.Image.{done, judged, Sealed, receiving}
-use Rattle.image.specs.Elements.{element_of, elements_of, joined}
+use Rattle.image.specs.Image.{done, judged, receiving}
+use Rattle.image.specs.Elements.{elements_of, joined}
 use Rattle.image.proofs.Joining.{element_at_lem, elements_long, joined_bytes, joined_elements}
 use Rattle.image.proofs.Judging.{sealed_judged}
 use Rattle.inserter.proofs.Placings.{passed_ok}

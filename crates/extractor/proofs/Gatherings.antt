@@ -1,5 +1,5 @@
 -- That a gather refuses short bursts.
-use Rattle.std.proofs.Common.{◌≡◌, ℕ, false, is_ok, Ok, Err, Result, refl, ap, ◌∙◌}
+use Rattle.std.proofs.Common.{◌≡◌, ℕ, false, is_ok, Ok, Err, Result, refl}
 use Rattle.fault.specs.declared.Fault.{Fault}
 use Rattle.column.specs.Column.{carried_rows}
 use Rattle.block.specs.Code.{then, decoded}

@@ -1,13 +1,11 @@
 -- What reading accepts, and that it refuses short bursts.
-use Rattle.std.proofs.Common.{◌≡◌, ℕ, ◌^◌, ◌<◌, Bool, true, false, not, ltb, List, length, get_or, is_ok, Ok, Err, Decides, Result, sym, refl, ap, ◌∙◌, inl, inr, arith}
+use Rattle.std.proofs.Common.{◌≡◌, ℕ, ◌<◌, Bool, true, false, not, ltb, is_ok, Ok, Err, Decides, Result, refl, arith}
 use Rattle.std.proofs.lemmas.Bool.Decides.{nat_tests}
-use Rattle.std.proofs.lemmas.Bool.{cases_Bool}
 use Rattle.fault.specs.declared.Fault.{Fault}
 use Rattle.fault.specs.declared.Fault.TheVariants.{SlabExtent, NotInFormat}
 use Rattle.crc.specs.Burst.{Rows}
 use Rattle.column.specs.Column.{carried_rows}
 use Rattle.column.proofs.Spelled.{spelled_pow, carried_row_lem, carried_length}
-use Rattle.record.specs.declared.record.Block.{Block}
 use Rattle.block.specs.Code.{refuse, then, decoded, WellFormed}
 use Rattle.block.proofs.Codes.{passed, not-false, accepts, accepted_if_formed, none_near}
 use Rattle.format.specs.declared.table.Format.{Format}

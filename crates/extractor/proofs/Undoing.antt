@@ -1,5 +1,5 @@
 -- Reading undoes placing.
-use Rattle.std.proofs.Common.{◌≡◌, ℕ, ◌+◌, ◌*◌, ◌^◌, ◌<◌, ◌≤◌, Bool, true, false, cond, not, ◌&&◌, eqb, ltb, List, length, get_or, is_ok, Ok, Err, Result, sym, refl, ap, ◌∙◌, subst, inl, inr, arith}
+use Rattle.std.proofs.Common.{◌≡◌, ℕ, ◌+◌, ◌*◌, ◌<◌, ◌≤◌, Bool, true, false, eqb, ltb, List, get_or, is_ok, Ok, Err, Result, refl, ap, ◌∙◌, inl, inr, arith}
 use Rattle.std.proofs.lemmas.List.{get_or_past}
 use Rattle.std.proofs.lemmas.Bool.Decides.{nat_tests}
 use Rattle.std.proofs.lemmas.Bool.{eq-eqb, cases_lt}
@@ -9,21 +9,18 @@ use Rattle.column.specs.Column.{embedded, carried_rows}
 use Rattle.column.proofs.Laws.{reads_back}
 use Rattle.record.specs.declared.record.Record.{Record}
 use Rattle.record.specs.declared.record.Block.{Block}
-use Rattle.record.specs.Layout.{data_rows}
-use Rattle.record.specs.Laws.{Fitting}
-use Rattle.record.proofs.Undoing.{decoding_undoes}
-use Rattle.block.specs.Code.{refuse, then, rows_of, decoded}
+use Rattle.block.specs.Code.{rows_of, decoded}
 use Rattle.block.proofs.Codes.{Sound, sound}
 use Rattle.format.specs.declared.table.Format.{Format}
 use Rattle.format.specs.declared.table.Format.TheVariants.{Frame1080, Field1080, Frame720, Bench}
-use Rattle.format.specs.Formats.{number_of, accepted, columns_of, stripes_of, frame_of, is_slab, in_format, within, reference_of, index_of, element_count}
+use Rattle.format.specs.Formats.{number_of, accepted, columns_of, is_slab, in_format, reference_of, index_of, element_count}
 use Rattle.image.proofs.Joining.{element_below}
 use Rattle.slots.specs.Exact.{same_flag}
-use Rattle.inserter.specs.Place.{agrees, flags_of, block_for, placing, placed_at}
+use Rattle.inserter.specs.Place.{agrees, block_for, placing, placed_at}
 use Rattle.inserter.proofs.Placings.{Accepted, accepted_parts}
-use Rattle.extractor.specs.Reading.{reading_in, reading}
-use Rattle.extractor.specs.Gather.{settled, admitted, expected, gathered, elements_after, sheet_after}
-use Rattle.extractor.specs.Undoing.{Placed, ReadingUndoesPlacing}
+use Rattle.extractor.specs.Reading.{reading}
+use Rattle.extractor.specs.Gather.{settled, gathered, elements_after, sheet_after}
+use Rattle.extractor.specs.Undoing.{ReadingUndoesPlacing}
 
 -- numbers past the end count as 0
 narrow_all : (rows : List ℕ) → Rows 16 rows → (i : ℕ) → get_or rows i 0 < 65536

@@ -1,5 +1,5 @@
 -- Gathering a picture: what start and gather answer, and what they leave in the element table and on a stripe's sheet.
-use Rattle.std.specs.Prelude.{◌≡◌, ℕ, Bool, true, false, not, List, Ok, Err, Result, ◌==◌, nat_eq, nat_lt}
+use Rattle.std.specs.Prelude.{ℕ, not, List, Ok, Err, Result, ◌==◌, nat_eq, nat_lt}
 use Rattle.fault.specs.declared.Fault.{Fault}
 use Rattle.fault.specs.declared.Fault.TheVariants.{FirstReference, Length, SlabExtent, FrameOrField, UnexpectedReference}
 use Rattle.column.specs.Column.{carried_rows}
@@ -7,9 +7,8 @@ use Rattle.record.specs.declared.record.Record.{Record}
 use Rattle.record.specs.declared.record.Block.{Block}
 use Rattle.slots.specs.declared.slot.Slot.{Slot}
 use Rattle.slots.specs.Exact.{same_flag, same_record}
-use Rattle.slots.specs.Slots.{cleared, offered_at}
+use Rattle.slots.specs.Slots.{offered_at}
 use Rattle.block.specs.Code.{refuse, then, decoded}
-use Rattle.format.specs.declared.table.Format.{Format}
 use Rattle.format.specs.Formats.{accepted, columns_of, frame_of, is_slab, within, reference_of, index_of, element_count}
 use Rattle.extractor.specs.declared.gathering.Gathering.{Gathering}
 

@@ -1,10 +1,10 @@
 -- The blank image, computed.
-use Rattle.std.proofs.Common.{◌≡◌, ℕ, zero, suc, ◌<◌, Bool, true, cond, ◌&&◌, eqb, List, Ok, refl}
+use Rattle.std.proofs.Common.{◌≡◌, ℕ, zero, suc, Bool, true, cond, ◌&&◌, eqb, Ok, refl}
 use Rattle.std.proofs.lemmas.Bool.Decides.{Decides-below_and, Decides-eqb}
 use Rattle.image.specs.declared.table.Name.TheVariants.{ChromaFormat, PictureStructure, Check}
 use Rattle.image.specs.Table.{table, row_at, row_of, parameter_of}
 use Rattle.image.specs.Value.{spelled, value_of}
-use Rattle.image.specs.Image.{lawful, Sealed, with_check, sealing, blank_data, blank_image, Blank, Samples}
+use Rattle.image.specs.Image.{lawful, Sealed, with_check, blank_data, blank_image, Blank, Samples}
 use Rattle.image.proofs.Sealing.{sealed_if_lawful}
 
 blank_lawful : lawful blank_image ≡ Ok tt

@@ -1,9 +1,8 @@
 -- Joining undoes taking apart, and taking apart undoes joining.
-use Rattle.std.proofs.Common.{◌≡◌, ℕ, ◌+◌, ◌-◌, ◌*◌, ◌/◌, ◌%◌, ◌^◌, ◌<◌, List, length, get_or, sym, refl, ap, ◌∙◌, subst, inl, inr, arith}
+use Rattle.std.proofs.Common.{◌≡◌, ℕ, ◌+◌, ◌-◌, ◌*◌, ◌/◌, ◌%◌, ◌^◌, ◌<◌, List, length, get_or, sym, ◌∙◌, subst, inl, inr, arith}
 use Rattle.std.proofs.lemmas.List.FromFn.{length-map-range_with_len, get_or-map-range_with_len, fill_by_all}
 use Rattle.std.proofs.lemmas.Nat.{mod_below}
 use Rattle.std.proofs.lemmas.Bool.{cases_eq}
-use Rattle.image.specs.Value.{spelled}
 use Rattle.image.specs.Elements.{element_of, elements_of, byte_of, joined, Bytes, Elements, JoiningUndoes, TakingUndoes}
 use Rattle.image.proofs.Spelled.{spelled_below, spelled_word}
 use Rattle.image.proofs.Sealing.{word_back}

@@ -1,13 +1,11 @@
 -- A sealed image is what sealing makes of its data.
-use Rattle.std.proofs.Common.{◌≡◌, ℕ, ◌+◌, ◌-◌, ◌*◌, ◌/◌, ◌%◌, ◌^◌, ◌<◌, Bool, true, false, not, eqb, List, ◌++◌, length, get_or, take, is_ok, Ok, Err, Decides, Result, sym, refl, ap, ◌∙◌, subst, inl, inr, arith, lit<}
-use native.Mathlib.Nat.{div-div-eq-div-mul}
+use Rattle.std.proofs.Common.{◌≡◌, ℕ, ◌+◌, ◌*◌, ◌/◌, ◌%◌, ◌^◌, ◌<◌, true, not, eqb, List, length, get_or, take, is_ok, Ok, Decides, sym, ap, ◌∙◌, inl, inr, arith, lit<}
 use Rattle.std.proofs.lemmas.List.{length-take-le, get_or-take, same_lists, get_or_default}
 use Rattle.std.proofs.lemmas.Bool.{eq-eqb, eqb-true, cases_eq, cases_lt}
 use Rattle.crc.specs.Register.{check_of, byte_bits}
-use Rattle.image.specs.declared.table.Name.TheVariants.{Check}
 use Rattle.image.specs.Table.{parameter_of}
 use Rattle.image.specs.Value.{value_of}
-use Rattle.image.specs.Image.{then, value_in, check_fits, lawful, judged, Sealed, word_bytes, with_check, sealing}
+use Rattle.image.specs.Image.{check_fits, lawful, judged, Sealed, with_check, sealing}
 use Rattle.image.specs.Elements.{Bytes}
 use Rattle.image.proofs.Spelled.{spelled_word}
 use Rattle.image.proofs.Sealing.{data_at, check_at, check_length, sealing_sealed}

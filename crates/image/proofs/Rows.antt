@@ -1,9 +1,9 @@
 -- The rows of the table: they follow on one another, and those with a name lie inside the image.
-use Rattle.std.proofs.Common.{◌≡◌, ℕ, zero, suc, ◌+◌, ◌<◌, ◌≤◌, Bool, true, ◌&&◌, eqb, refl, lit≤}
+use Rattle.std.proofs.Common.{◌≡◌, ℕ, zero, suc, ◌+◌, ◌≤◌, Bool, true, ◌&&◌, eqb, refl, lit≤}
 use Rattle.std.proofs.lemmas.Bool.Decides.{Decides-below_and, Decides-eqb}
 use Rattle.image.specs.declared.table.Name.{Name}
 use Rattle.image.specs.declared.table.Name.TheVariants.{MpegStandardFlag, ChromaFormat, PictureStructure, TopFieldFirst, QScaleType, RepeatFirstField, Spare, Check}
-use Rattle.image.specs.Table.{table, row_at, row_of, parameter_of, Gapless}
+use Rattle.image.specs.Table.{table, row_at, row_of, Gapless}
 
 -- where row i ends, and where the next begins
 abbrev end : ℕ → ℕ

@@ -10,7 +10,7 @@ use Rattle.crc.specs.Register.{check_of, byte_bits}
 use Rattle.crc.proofs.Runs.{check_below}
 use Rattle.image.specs.declared.table.Name.TheVariants.{Check}
 use Rattle.image.specs.Table.{parameter_of}
-use Rattle.image.specs.Value.{spelled, value_of}
+use Rattle.image.specs.Value.{value_of}
 use Rattle.image.specs.Image.{refuse, then, value_in, check_fits, lawful, judged, Sealed, word_bytes, with_check, sealing}
 use Rattle.image.specs.Elements.{Bytes}
 use Rattle.image.proofs.Spelled.{spelled_word}

@@ -1,5 +1,5 @@
 -- The elements of an image: 135 words of 32 bits. Element i is bits 32i to 32i + 31 of the image.
-use Rattle.std.specs.Prelude.{◌≡◌, ℕ, ◌+◌, ◌-◌, ◌*◌, ◌/◌, ◌%◌, ◌^◌, ◌<◌, cond, List, map, length, Some, None, Option, nat_lt, slice_index}
+use Rattle.std.specs.Prelude.{◌≡◌, ℕ, ◌-◌, ◌*◌, ◌/◌, ◌%◌, ◌^◌, ◌<◌, cond, List, map, length, Some, None, Option, nat_lt, slice_index}
 use Rattle.std.specs.List.{range_with_len}
 use Rattle.image.specs.Value.{spelled}
 

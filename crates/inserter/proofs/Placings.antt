@@ -1,5 +1,5 @@
 -- What an accepted place says of its block.
-use Rattle.std.proofs.Common.{◌≡◌, ℕ, ◌+◌, ◌*◌, ◌%◌, ◌<◌, ◌≤◌, Bool, true, false, cond, not, ◌&&◌, eqb, ltb, leb, List, is_ok, IfOk, Ok, Err, Result, sym, refl, ap, ◌∙◌, subst, arith}
+use Rattle.std.proofs.Common.{◌≡◌, ℕ, ◌+◌, ◌*◌, ◌<◌, ◌≤◌, Bool, true, false, not, eqb, leb, List, IfOk, Ok, Err, Result, sym, refl, ap, ◌∙◌, arith}
 use Rattle.std.proofs.lemmas.Bool.Decides.{nat_tests}
 use Rattle.fault.specs.declared.Fault.{Fault}
 use Rattle.fault.specs.declared.Fault.TheVariants.{SlabExtent, NotInFormat, FrameOrField}
@@ -7,11 +7,11 @@ use Rattle.column.specs.Column.{within, carried_rows}
 use Rattle.record.specs.declared.record.Record.{Record}
 use Rattle.record.specs.declared.record.Block.{Block}
 use Rattle.record.specs.Rules.{checked}
-use Rattle.block.specs.Code.{refuse, then, rows_of, encoded, decoded}
+use Rattle.block.specs.Code.{refuse, then, rows_of, decoded}
 use Rattle.block.specs.Slab.{writable, readable}
-use Rattle.block.proofs.Codes.{passed, not-false}
+use Rattle.block.proofs.Codes.{not-false}
 use Rattle.format.specs.declared.table.Format.{Format}
-use Rattle.format.specs.Formats.{columns_of, frame_of, is_slab, in_format, reference_of}
+use Rattle.format.specs.Formats.{columns_of, frame_of, is_slab, in_format}
 use Rattle.image.specs.Image.{is_frame}
 use Rattle.inserter.specs.Place.{agrees, block_for, placing, Ready}
 

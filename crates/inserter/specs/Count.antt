@@ -1,5 +1,5 @@
 -- The inserter's references: where the next picture begins.
-use Rattle.std.specs.Prelude.{ℕ, Ok, Err, Result, nat_lt}
+use Rattle.std.specs.Prelude.{ℕ, Ok, Result, nat_lt}
 use Rattle.fault.specs.declared.Fault.{Fault}
 use Rattle.fault.specs.declared.Fault.TheVariants.{FirstReference}
 use Rattle.block.specs.Code.{refuse, then}

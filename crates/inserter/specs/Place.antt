@@ -1,5 +1,5 @@
 -- Placing a record on a macroblock of an open picture.
-use Rattle.std.specs.Prelude.{◌≡◌, ℕ, ◌≤◌, Bool, cond, not, List, is_ok, Ok, Err, Result}
+use Rattle.std.specs.Prelude.{◌≡◌, ℕ, ◌≤◌, Bool, cond, not, List, Ok, Err, Result}
 use Rattle.fault.specs.declared.Fault.{Fault}
 use Rattle.fault.specs.declared.Fault.TheVariants.{SlabExtent, NotInFormat, FrameOrField}
 use Rattle.column.specs.Column.{embedded, carried_rows}

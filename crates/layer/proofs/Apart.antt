@@ -1,6 +1,5 @@
 -- Layers beside each other.
-use Rattle.std.proofs.Common.{◌≡◌, ℕ, ◌+◌, ◌-◌, ◌*◌, ◌/◌, ◌%◌, ◌<◌, ◌≤◌, min, refl, arith}
-use Rattle.layer.specs.declared.field.FieldKind.{FieldKind}
+use Rattle.std.proofs.Common.{◌+◌, ◌*◌, refl, arith}
 use Rattle.layer.specs.declared.field.FieldKind.TheVariants.{Top, Bottom}
 use Rattle.layer.specs.Neighbours.{WindowsApart, FieldsApart}
 

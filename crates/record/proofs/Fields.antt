@@ -1,6 +1,6 @@
 -- What is joined from parts is found again under each name.
 use Rattle.std.proofs.Common.{◌≡◌, ℕ, ◌+◌, ◌*◌, ◌/◌, ◌%◌, ◌^◌, ◌<◌, true, eqb, List, get_or, refl, arith}
-use Rattle.std.specs.List.{AllByRecursion as All}
+use Rattle.std.specs.List.{AllByRecursion}
 use Rattle.std.proofs.lemmas.Bool.{and_parts, and_from, eqb-true, eq-eqb}
 use Rattle.record.specs.Layout.{Name, Sync, FrFlSrib, TopFieldFirst, RepeatFirstField, Chroma422420, QScaleType, MbQuant, MbMfwd, MbMbwd, MbPattern, MbIntra, DctType, Reference, Element, Mv000, Mv001, Mv010, Mv011, Mv100, Mv101, Mv110, Mv111, MotionType, SkippedMb, NumOtherBits, SliceStartFlag, NumMvBits, QScaleCode, MbVertFieldSel, NumCoefBits, CodedBlockPattern, width_of, found, rows_with, reserved_clear}
 
@@ -50,7 +50,7 @@ module _ (values : Name → ℕ) (small : (n : Name) → values n < 2 ^ width_of
   found_again CodedBlockPattern = omega (arith, small CodedBlockPattern)
 
   -- the rows have 16 bits
-  pub rows_narrow : All (λ row. row < 2 ^ 16) (rows_with values)
+  pub rows_narrow : AllByRecursion (λ row. row < 2 ^ 16) (rows_with values)
   rows_narrow = (
     omega (arith, row_0),
     (

@@ -1,6 +1,6 @@
 -- What is found in well-formed rows joins to these rows again.
 use Rattle.std.proofs.Common.{◌≡◌, ℕ, ◌+◌, ◌*◌, ◌%◌, ◌^◌, ◌<◌, true, List, [], ◌∷◌, length, get_or, sym, refl, ap, ◌∙◌, arith}
-use Rattle.std.specs.List.{AllByRecursion as All}
+use Rattle.std.specs.List.{AllByRecursion}
 use Rattle.std.proofs.lemmas.Nat.{mod-pow-add}
 use Rattle.std.proofs.lemmas.List.FromFn.{fill_by_all}
 use Rattle.std.proofs.ByRecursion.{All-get_or}
@@ -19,7 +19,7 @@ cuts_joined (p ∷ ps) row = ap (λ rest. cut p ps row * 2 ^ width ps + rest) (c
 cuts_whole : (ps : List Part) (row : ℕ) → width ps ≡ 16 → row < 2 ^ 16 → cuts ps row ≡ row
 cuts_whole ps row wide h = cuts_joined ps row ∙ rw wide (omega arith)
 
-module _ (rows : List ℕ) (count : length rows ≡ 14) (narrow : All (λ row. row < 2 ^ 16) rows) (reserved : reserved_clear rows ≡ true) where
+module _ (rows : List ℕ) (count : length rows ≡ 14) (narrow : AllByRecursion (λ row. row < 2 ^ 16) rows) (reserved : reserved_clear rows ≡ true) where
   abbrev Rejoined : ℕ → Type 0
   Rejoined i = joined (found rows) (get_or layout i []) ≡ get_or rows i 0
 

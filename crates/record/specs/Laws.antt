@@ -1,6 +1,6 @@
 -- The laws of the layout: encoding and decoding undo each other. And samples of it.
 use Rattle.std.specs.Prelude.{◌≡◌, ℕ, ◌*◌, ◌^◌, ◌<◌, Bool, true, false, List, map, length, replicate, ℤ, pos, negsuc, slice_index_or}
-use Rattle.std.specs.List.{AllByRecursion as All}
+use Rattle.std.specs.List.{AllByRecursion}
 use Rattle.record.specs.declared.record.Record.{Record}
 use Rattle.record.specs.declared.record.Block.{Block}
 use Rattle.record.specs.Layout.{layout, width, data_rows, block_of, has_sync, reserved_clear}
@@ -19,7 +19,7 @@ pub record Fitting (b : Block) : Type 0 where
 -- well-formed data rows: 14 rows of 16 bits, with the sync code and all reserved bits 0
 pub record Formed (rows : List ℕ) : Type 0 where
   pub count : length rows ≡ 14
-  pub narrow : All (λ row. row < 2 ^ 16) rows
+  pub narrow : AllByRecursion (λ row. row < 2 ^ 16) rows
   pub sync : has_sync rows ≡ true
   pub reserved : reserved_clear rows ≡ true
 

@@ -1,5 +1,5 @@
 -- Two rows are the same exactly if their mirrored rows are.
-use Rattle.std.proofs.Common.{◌≡◌, ℕ, ◌-◌, ◌<◌, Bool, cond, ◌&&◌, eqb, Ok, ap, ◌∙◌, arith}
+use Rattle.std.proofs.Common.{◌≡◌, ℕ, ◌<◌, Bool, cond, ◌&&◌, eqb, Ok, ap, ◌∙◌, arith}
 use Rattle.std.proofs.lemmas.Bool.Decides.{nat_tests}
 use Rattle.raster.specs.Meaning.{answered, replaced, with_bit}
 use Rattle.reversed.specs.Rows.{mirrored}

@@ -2,7 +2,6 @@
 use Rattle.std.proofs.Common.{◌≡◌, ℕ, zero, suc, Bool, true, false, cond, List, [], ◌∷◌, length, Some, None, Option, refl, ap, inl, inr, add-one, arith}
 use Rattle.std.proofs.lemmas.Bool.{cases_order}
 use Rattle.slots.specs.declared.slot.Slot.{Slot}
-use Rattle.slots.specs.declared.slot.Slot.TheVariants.{Empty}
 use Rattle.slots.specs.declared.slot.State.{State}
 use Rattle.slots.specs.Slots.{state_of, same_state, further, lowest_in, NoneBelow, Lowest}
 

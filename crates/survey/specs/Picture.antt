@@ -1,5 +1,5 @@
 -- A survey of the bench picture that three memories hold.
-use Rattle.std.specs.Prelude.{ℕ, List, length, replicate}
+use Rattle.std.specs.Prelude.{ℕ, List, replicate}
 use Rattle.slots.specs.declared.slot.Slot.{Slot}
 use Rattle.slots.specs.declared.slot.Slot.TheVariants.{Empty}
 use Rattle.format.specs.declared.table.Format.TheVariants.{Bench}

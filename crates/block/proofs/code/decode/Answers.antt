@@ -1,11 +1,9 @@
 -- What is accepted is well formed, and the laws of well-formed rows.
-use Rattle.std.proofs.Common.{◌≡◌, true, is_ok, Ok, Err, Decides, Result, sym, ap, ◌∙◌}
+use Rattle.std.proofs.Common.{◌≡◌, is_ok, Ok, ap}
 use Rattle.std.proofs.lemmas.Bool.Decides.{Decides-at}
-use Rattle.fault.specs.declared.Fault.{Fault}
 use Rattle.crc.specs.Burst.{Rows}
-use Rattle.record.specs.declared.record.Block.{Block}
-use Rattle.block.specs.Code.{encoded, decoded, block_in, WellFormed, NoneNear, OnlyThese}
-use Rattle.block.proofs.Codes.{accepts, accepted_if_formed, encoded_back, none_near, only_these, of_accepted}
+use Rattle.block.specs.Code.{encoded, decoded, NoneNear, OnlyThese}
+use Rattle.block.proofs.Codes.{accepts, encoded_back, none_near, only_these, of_accepted}
 use Rattle.block.proofs.code.decode.Goals as goal
 
 pub returns : goal.returns

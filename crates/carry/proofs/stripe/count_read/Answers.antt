@@ -1,4 +1,4 @@
-use Rattle.std.proofs.Common.{◌≡◌, sym, subst, arith, rules}
+use Rattle.std.proofs.Common.{sym, subst, arith, rules}
 use Rattle.std.proofs.lemmas.Bool.Decides.{not_from_Decides}
 use Rattle.carry.specs.Stripe.{Reads, Counted, none, one, not}
 use Rattle.carry.proofs.stripe.count_read.Goals as goal

@@ -1,4 +1,4 @@
-use Rattle.std.proofs.Common.{◌≡◌, ◌+◌, true, false, cond, get_or, sym, ap, ◌∙◌, arith, rules}
+use Rattle.std.proofs.Common.{◌≡◌, ◌+◌, cond, get_or, sym, ap, ◌∙◌, arith, rules}
 use Rattle.slots.specs.declared.slot.Slot.TheVariants.{Empty}
 use Rattle.slots.specs.declared.slot.State.{State}
 use Rattle.slots.specs.Slots.{state_of, same_state}

@@ -1,9 +1,8 @@
 -- A cleared table of 135 slots is the empty one.
-use Rattle.std.proofs.Common.{◌≡◌, length, replicate, Ok, sym, ap, ◌∙◌, ap₂, rules}
+use Rattle.std.proofs.Common.{◌≡◌, length, replicate, Ok, sym, ap, ◌∙◌, rules}
 use lib.ListN.{length-replicate}
 use Rattle.slots.specs.declared.slot.Slot.TheVariants.{Empty}
-use Rattle.carry_picture.specs.declared.line.PictureLine.{PictureLine}
-use Rattle.carry_picture.specs.Picture.{bench_picture, held_in, table_of, good_of, gathered_of}
+use Rattle.carry_picture.specs.Picture.{bench_picture, held_in}
 use Rattle.carry_picture.proofs.Counts.{line_of}
 use Rattle.carry_picture.proofs.gathering.gather_picture.Goals as goal
 

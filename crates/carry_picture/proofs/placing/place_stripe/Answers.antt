@@ -1,4 +1,4 @@
-use Rattle.std.proofs.Common.{arith, rules}
+use Rattle.std.proofs.Common.{rules}
 use Rattle.carry_picture.proofs.Stripes.{none_laden, one_laden}
 use Rattle.carry_picture.proofs.placing.place_stripe.Goals as goal
 

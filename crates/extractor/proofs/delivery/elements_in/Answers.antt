@@ -1,4 +1,4 @@
-use Rattle.std.proofs.Common.{◌≡◌, ℕ, ◌<◌, ◌≢◌, map, length, get_or, Ok, sym, ap, ◌∙◌, arith, get_or-set_other, get_or-set_same, rules, below_more}
+use Rattle.std.proofs.Common.{◌<◌, ◌≢◌, map, length, Ok, sym, ap, ◌∙◌, arith, get_or-set_other, get_or-set_same, rules, below_more}
 use lib.ListN.{length-map}
 use Rattle.std.proofs.lemmas.List.{same_lists, get_or-map, get_or_default}
 use Rattle.slots.specs.declared.slot.Slot.TheVariants.{Empty}

@@ -1,4 +1,4 @@
-use Rattle.std.proofs.Common.{ℕ, ap, ◌∙◌}
+use Rattle.std.proofs.Common.{ap, ◌∙◌}
 use Rattle.image.specs.Elements.{elements_of, Elements}
 use Rattle.image.proofs.Joining.{joining_undoes, taking_undoes, elements_joined}
 use Rattle.image.proofs.elements.join.Goals as goal

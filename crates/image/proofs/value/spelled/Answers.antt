@@ -1,5 +1,5 @@
-use Rattle.std.proofs.Common.{◌≡◌, ◌+◌, ◌^◌, ◌<◌, sym, arith}
-use Rattle.image.specs.Value.{spelled, bit_of}
+use Rattle.std.proofs.Common.{◌+◌, ◌<◌, sym, arith}
+use Rattle.image.specs.Value.{bit_of}
 use Rattle.image.proofs.Spelled.{spelled_none, spelled_more, spelled_fits}
 use Rattle.image.proofs.value.spelled.Goals as goal
 

@@ -1,4 +1,4 @@
-use Rattle.std.proofs.Common.{◌≡◌, ◌∙◌}
+use Rattle.std.proofs.Common.{◌∙◌}
 use Rattle.raster.proofs.Flat.{from_answered}
 use Rattle.reversed.specs.Rows.{mirrored}
 use Rattle.reversed.proofs.Mirror.{mirror_inside, mirror_after}

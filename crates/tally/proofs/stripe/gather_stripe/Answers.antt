@@ -1,6 +1,4 @@
-use Rattle.std.proofs.Common.{◌≡◌, ℕ, ◌≤◌, length, Result, sym, refl, ap, ◌∙◌, ap₂, arith, rules}
-use Rattle.fault.specs.declared.Fault.{Fault}
-use Rattle.record.specs.declared.record.Block.{Block}
+use Rattle.std.proofs.Common.{◌≡◌, ℕ, ◌≤◌, length, sym, refl, ap, ◌∙◌, ap₂, arith}
 use Rattle.extractor.specs.Gather.{gathered, settled, elements_after, sheet_after}
 use Rattle.tally.specs.declared.kind.Kind.TheVariants.{Good, Foreign, Bad}
 use Rattle.tally.proofs.Stripes.{count_below, elements_none, elements_more, records_none, records_more, elements_length, records_length, tallied_none, tallied_more}

@@ -1,5 +1,5 @@
 -- One bit of one byte changes, which is bit 0 of the n-th word.
-use Rattle.std.proofs.Common.{◌+◌, ◌*◌, ◌/◌, ◌%◌, ◌<◌, ◌≤◌, length, refl, arith}
+use Rattle.std.proofs.Common.{◌+◌, ◌*◌, ◌/◌, ◌%◌, ◌<◌, length, refl, arith}
 use Rattle.buffer.specs.Size.{bytes_of}
 use Rattle.buffer.proofs.Packing.{in_bytes, set_packed, packed_kept, packed_after}
 use Rattle.buffer.proofs.packed.PackedBuffer.write.Goals as goal

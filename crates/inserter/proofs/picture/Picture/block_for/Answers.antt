@@ -1,4 +1,3 @@
-use Rattle.std.proofs.Common.{◌≡◌, sym}
 use Rattle.inserter.proofs.Placings.{of_accepted}
 use Rattle.inserter.proofs.picture.Picture.block_for.Goals as goal
 

@@ -1,5 +1,5 @@
 -- The row below is that of the field's row, so the other field stays.
-use Rattle.std.proofs.Common.{refl, ◌∙◌, rules}
+use Rattle.std.proofs.Common.{refl, ◌∙◌}
 use Rattle.layer.specs.Field.{field_rows, row_below}
 use Rattle.raster.proofs.Flat.{from_answered}
 use Rattle.layer.proofs.Layers.{answered_inside, row_inside, field_after, field_kept}

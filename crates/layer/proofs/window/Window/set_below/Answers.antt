@@ -1,5 +1,5 @@
 -- The spot below is that of the window's row and place, so what lies around the window stays.
-use Rattle.std.proofs.Common.{◌≡◌, ℕ, ◌+◌, ◌<◌, refl, ◌∙◌, rules}
+use Rattle.std.proofs.Common.{◌≡◌, ℕ, ◌+◌, ◌<◌, refl, ◌∙◌}
 use Rattle.raster.specs.Meaning.{replaced}
 use Rattle.layer.specs.Window.{shown_of}
 use Rattle.raster.proofs.Flat.{from_answered}
