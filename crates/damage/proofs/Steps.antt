@@ -152,7 +152,7 @@ module _ (g : Gathering) (stripe column : ℕ) (grid : Grid) (slots slots' : Lis
   pub gather_step : Gathers g stripe column grid slots slots' sheet sheet' said → GatherStep g stripe column grid slots slots' sheet sheet' said
   gather_step q ch t v et es = record {
     leaves = subst (λ (x : Result Block Fault). Like (settled x ch (gather_after ch t stripe column)) (with_sheet (with_table ch t slots') stripe sheet')) (sym same)
-        (go said q.slots_after q.sheet_after_lem);
+        (go said q.slots_after q.sheet_at_end);
     answers = ap brought same;
   }
     where

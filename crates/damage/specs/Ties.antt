@@ -88,7 +88,7 @@ pub record Places (f : Format) (first stripe column : ℕ) (bytes : List ℕ) (r
 pub record Gathers (g : Gathering) (stripe column : ℕ) (grid : Grid) (slots slots' : List (Slot ℕ)) (sheet sheet' : List (Slot Record)) (said : Result Block Fault) : Type 0 where
   pub answer : said ≡ gathered g stripe column grid.rows grid.words grid.word (length slots) (length sheet)
   pub slots_after : slots' ≡ settled said slots (elements_after stripe column slots)
-  pub sheet_after_lem : sheet' ≡ settled said sheet (sheet_after column sheet)
+  pub sheet_at_end : sheet' ≡ settled said sheet (sheet_after column sheet)
 
 pub record Seals (given bytes bytes' : List ℕ) (said : Result (Unit {0}) Fault) : Type 0 where
   pub answer : said ≡ done (sealing given)

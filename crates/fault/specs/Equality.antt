@@ -1,8 +1,10 @@
 -- When two refusals are equal: exactly when they have the same number and the same place.
-use Rattle.std.specs.Prelude.{◌≡◌, Bool, true, false, ◌&&◌, ◌==◌}
+use Rattle.std.specs.Prelude.{◌≡◌, Bool, true, false, ◌&&◌, ◌==◌, refl}
 use Rattle.std.specs.Bool.{Decides}
-use Rattle.std.proofs.Common.{rules}
-use Rattle.std.specs.Cmp.{IsEquivalence, decided}
+use Rattle.std.specs.Cmp.{IsEquivalence, decided, unsigned_Decides, nat_eq_equiv, on_equiv, and_equiv}
+use Rattle.std.specs.Ordering.{on, eq_of_both}
+use Rattle.std.proofs.Common.{sym, subst, true≢false, rules}
+use Rattle.std.proofs.lemmas.Bool.Decides.{Decides-and}
 use Rattle.fault.specs.declared.Place.{Place}
 use Rattle.fault.specs.declared.Place.TheVariants.{Nowhere, Word, Slot}
 use Rattle.fault.specs.declared.Fault.{Fault}
@@ -20,13 +22,31 @@ is_same_place (Slot slot) (Word row word) = false
 is_same_place (Slot slot) (Slot slot') = slot == slot'
 
 abbrev pub is_same : Fault → Fault → Bool
-is_same f g = number_of f == number_of g && is_same_place (place_of f) (place_of g)
+is_same = eq_of_both (on number_of ◌==◌) (on place_of is_same_place)
 
-is_same_place_decides : (p q : Place) → Decides (is_same_place p q) (p ≡ q)
-is_same_place_decides p q = search rules
+itself : (p : Place) → is_same_place p p ≡ true
+itself Nowhere = refl
+itself (Word row word) = (Decides-and (row == row) (word == word) (unsigned_Decides row row) (unsigned_Decides word word)).1 (refl, refl)
+itself (Slot slot) = (unsigned_Decides slot slot).1 refl
+
+only_itself : (p q : Place) → is_same_place p q ≡ true → p ≡ q
+only_itself Nowhere Nowhere e = refl
+only_itself Nowhere (Word row word) e = absurd (true≢false (sym e))
+only_itself Nowhere (Slot slot) e = absurd (true≢false (sym e))
+only_itself (Word row word) Nowhere e = absurd (true≢false (sym e))
+only_itself (Word row word) (Word row' word') e =
+    let both = (Decides-and (row == row') (word == word') (unsigned_Decides row row') (unsigned_Decides word word')).0 e in
+    λ i. Word (both.0 i) (both.1 i)
+only_itself (Word row word) (Slot slot) e = absurd (true≢false (sym e))
+only_itself (Slot slot) Nowhere e = absurd (true≢false (sym e))
+only_itself (Slot slot) (Word row word) e = absurd (true≢false (sym e))
+only_itself (Slot slot) (Slot slot') e = λ i. Slot ((unsigned_Decides slot slot').0 e i)
+
+pub is_same_place_decides : (p q : Place) → Decides (is_same_place p q) (p ≡ q)
+is_same_place_decides p q = (only_itself p q, λ e. subst (λ x. is_same_place p x ≡ true) e (itself p))
+
+pub is_same_laws : IsEquivalence is_same
+is_same_laws = and_equiv (on_equiv number_of nat_eq_equiv) (on_equiv place_of (decided is_same_place is_same_place_decides))
 
 pub is_same_decides : (f g : Fault) → Decides (is_same f g) (f ≡ g)
 is_same_decides f g = search rules
-
-pub is_same_laws : IsEquivalence is_same
-is_same_laws = decided is_same is_same_decides
