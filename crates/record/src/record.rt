@@ -91,6 +91,17 @@ impl Record {
             self.coded_block_pattern,
         ]
     }
+
+    // Whether every component is that of the other.
+    #[tactic(auto, unfolding(crate::specs::Equality::is_same_record))]
+    fn has_parts_of(&self, other: &Record) -> bool
+        ensures { result ≡ is_same_record self.now other.now }
+    {
+        self.flags() == other.flags()
+            && self.vectors() == other.vectors()
+            && self.numbers() == other.numbers()
+            && self.num_coef_bits == other.num_coef_bits
+    }
 }
 
 impl PartialEq for Record {
@@ -98,15 +109,11 @@ impl PartialEq for Record {
 
     ghost laws = { Keys.partial_equiv_from_equiv is_same_record_laws };
 
-    #[tactic(auto, unfolding(crate::specs::Equality::is_same_record))]
     fn eq(&self, other: &Record) -> bool
         ensures computed { result ≡ is_same_record self.now other.now }
         ensures exact { Decides result (self.now ≡ other.now) }
     {
-        self.flags() == other.flags()
-            && self.vectors() == other.vectors()
-            && self.numbers() == other.numbers()
-            && self.num_coef_bits == other.num_coef_bits
+        self.has_parts_of(other)
     }
 }
 
