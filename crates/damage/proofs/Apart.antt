@@ -7,7 +7,7 @@ use Rattle.record.specs.declared.record.Record.{Record}
 use Rattle.record.specs.declared.record.Block.{Block}
 use Rattle.slots.specs.declared.slot.Slot.{Slot}
 use Rattle.slots.specs.declared.slot.Slot.TheVariants.{Empty}
-use Rattle.slots.specs.Exact.{same_record}
+use Rattle.record.specs.Equality.{is_same_record}
 use Rattle.slots.specs.Slots.{offered, cleared}
 use Rattle.block.specs.Code.{then, rows_of, decoded}
 use Rattle.block.specs.Slab.{done}
@@ -239,7 +239,7 @@ module _ (s c : ℕ) (one two : Chain) (v : Same s c one two) where
     sheet = put_both (λ x y. length x ≡ length y) one.sheet two.sheet s _ _ s (λ _. length-set (one.sheet s) c _ ∙ v.sheet ∙ sym (length-set (two.sheet s) c _)) v.sheet;
     slot = put_both (λ x y. get_or x c Empty ≡ get_or y c Empty) one.sheet two.sheet s _ _ s
         (λ _. set_alike (one.sheet s) (two.sheet s) c _ Empty v.sheet
-        ∙ ap (λ z. get_or (set (two.sheet s) c (offered same_record z b.«record»)) c Empty) v.slot) v.slot;
+        ∙ ap (λ z. get_or (set (two.sheet s) c (offered is_same_record z b.«record»)) c Empty) v.slot) v.slot;
     tables = λ u. put_both (λ x y. length x ≡ length y) one.table two.table t _ _ u
         (λ _. length-set (one.table t) (index_of s c) _ ∙ v.tables t ∙ sym (length-set (two.table t) (index_of s c) _)) (v.tables u);
   })

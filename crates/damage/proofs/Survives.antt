@@ -13,7 +13,7 @@ use Rattle.record.specs.declared.record.Block.{Block}
 use Rattle.slots.specs.declared.slot.Slot.{Slot}
 use Rattle.slots.specs.declared.slot.Slot.TheVariants.{Empty, Held}
 use Rattle.slots.specs.declared.slot.State.{State}
-use Rattle.slots.specs.Exact.{same_flag, numbers_exact}
+use Rattle.slots.specs.Exact.{numbers_exact}
 use Rattle.slots.specs.Slots.{state_of, place_of, offered, offered_at, cleared, lowest_in}
 use Rattle.slots.proofs.Offering.{settled as offer-settles}
 use Rattle.slots.proofs.Searching.{lowest_is}
@@ -104,10 +104,6 @@ brings_harmless : (r : Result Block Fault) (e : ℕ) → Brings r e → Harmless
 brings_harmless (Ok b) e h = h
 brings_harmless (Err fault) e h = absurd h
 
-same_flag_lem : (a b : Bool) → same_flag a b ≡ agrees a b
-same_flag_lem true b = refl
-same_flag_lem false b = refl
-
 -- an intact macroblock is gathered, and brings the element of its image
 pub intact_gathers : (ch : Chain) (g : Gathering) (t s c : ℕ) (q : Placing) (image : List ℕ) → g.format ≡ ch.format → length (ch.table t) ≡ 135 → length (ch.sheet s) ≡ columns_of g.format →
     Known ch.format (ch.slab s) s c q → q.picture.first ≡ g.first → q.image ≡ image → q.painted ≡ false →
@@ -125,8 +121,8 @@ intact_gathers ch g t s c q image ef et es h ep ei en =
     let d : decoded (carried_rows (ch.slab s).word c) ≡ Ok b = ap decoded (h.here en ∙ h.rows) ∙ decodes f q.picture.first s c rows words q.image h.entry h.accepted in (
       b,
       ap₂ (λ x y. then x (λ _. then y (expected g s c))) a d
-          ∙ refuse_pass (not (same_flag b.picture.fr_fl_srib (frame_of g.format))) FrameOrField _
-          (not_from_true _ (same_flag_lem b.picture.fr_fl_srib (frame_of g.format) ∙ ap (λ f. agrees b.picture.fr_fl_srib (frame_of f)) ef ∙ h.accepted.frame))
+          ∙ refuse_pass (not (agrees b.picture.fr_fl_srib (frame_of g.format))) FrameOrField _
+          (not_from_true _ (ap (λ f. agrees b.picture.fr_fl_srib (frame_of f)) ef ∙ h.accepted.frame))
           ∙ refuse_pass (not (eqb b.reference (reference_of g.format g.first s c))) UnexpectedReference _
           (not_from_true _ (eq-eqb _ _ (ap₂ (λ f a. reference_of f a s c) (sym ef) ep))),
       ap (λ x. element_of x (index_of s c)) ei,

@@ -1,5 +1,5 @@
 -- Reading undoes placing.
-use Rattle.std.proofs.Common.{◌≡◌, ℕ, ◌+◌, ◌*◌, ◌<◌, ◌≤◌, Bool, true, false, eqb, ltb, List, get_or, is_ok, Ok, Err, Result, refl, ap, ◌∙◌, inl, inr, arith}
+use Rattle.std.proofs.Common.{◌≡◌, ℕ, ◌+◌, ◌*◌, ◌<◌, ◌≤◌, true, eqb, ltb, List, get_or, is_ok, Ok, Err, Result, refl, ap, ◌∙◌, inl, inr, arith}
 use Rattle.std.proofs.lemmas.List.{get_or_past}
 use Rattle.std.proofs.lemmas.Bool.Decides.{nat_tests}
 use Rattle.std.proofs.lemmas.Bool.{eq-eqb, cases_lt}
@@ -15,8 +15,7 @@ use Rattle.format.specs.declared.table.Format.{Format}
 use Rattle.format.specs.declared.table.Format.TheVariants.{Frame1080, Field1080, Frame720, Bench}
 use Rattle.format.specs.Formats.{number_of, accepted, columns_of, is_slab, in_format, reference_of, index_of, element_count}
 use Rattle.image.proofs.Joining.{element_below}
-use Rattle.slots.specs.Exact.{same_flag}
-use Rattle.inserter.specs.Place.{agrees, block_for, placing, placed_at}
+use Rattle.inserter.specs.Place.{block_for, placing, placed_at}
 use Rattle.inserter.proofs.Placings.{Accepted, accepted_parts}
 use Rattle.extractor.specs.Reading.{reading}
 use Rattle.extractor.specs.Gather.{settled, gathered, elements_after, sheet_after}
@@ -46,10 +45,6 @@ number_accepted Field1080 = refl
 number_accepted Frame720 = refl
 number_accepted Bench = refl
 
-same_flag_lem : (a b : Bool) → agrees a b ≡ true → same_flag a b ≡ true
-same_flag_lem true b e = e
-same_flag_lem false b e = e
-
 module _ (f : Format) (first stripe column rows words : ℕ) (image : List ℕ) (r : Record) (at now : ℕ → ℕ → ℕ)
     (a : Accepted f first stripe column rows words image r (block_for f first stripe column image r))
     (shown : (i j : ℕ) → i < rows → j < words → now i j ≡ embedded at column (rows_of (block_for f first stripe column image r)) i j) where
@@ -78,7 +73,7 @@ module _ (f : Format) (first stripe column rows words : ℕ) (image : List ℕ) 
   gathered_back =
       let t : eqb (columns_of f) (columns_of f) ≡ true = eq-eqb (columns_of f) (columns_of f) refl in
       let e : eqb (reference_of f first stripe column) (reference_of f first stripe column) ≡ true = eq-eqb _ _ refl in
-      rw (t, a.slab, a.inside, carried_block, same_flag_lem _ _ a.frame, e)
+      rw (t, a.slab, a.inside, carried_block, a.frame, e)
 
 pub reading_undoes_placing : ReadingUndoesPlacing
 reading_undoes_placing f first stripe column rows words image r at now p =

@@ -5,11 +5,12 @@ use Rattle.fault.specs.declared.Fault.TheVariants.{FirstReference, Length, SlabE
 use Rattle.column.specs.Column.{carried_rows}
 use Rattle.record.specs.declared.record.Record.{Record}
 use Rattle.record.specs.declared.record.Block.{Block}
+use Rattle.record.specs.Equality.{is_same_record}
 use Rattle.slots.specs.declared.slot.Slot.{Slot}
-use Rattle.slots.specs.Exact.{same_flag, same_record}
 use Rattle.slots.specs.Slots.{offered_at}
 use Rattle.block.specs.Code.{refuse, then, decoded}
 use Rattle.format.specs.Formats.{accepted, columns_of, frame_of, is_slab, within, reference_of, index_of, element_count}
+use Rattle.inserter.specs.Place.{agrees}
 use Rattle.extractor.specs.declared.gathering.Gathering.{Gathering}
 
 -- what is left by a call: what an acceptance makes of it, or as it was
@@ -28,7 +29,7 @@ starting number first slots =
 -- a block that was read: 18 if it is of a frame and the format of fields, or the other way round; 19 if another reference is due
 abbrev pub expected : Gathering → ℕ → ℕ → Block → Result Block Fault
 expected g stripe column b =
-    refuse (not (same_flag b.picture.fr_fl_srib (frame_of g.format))) FrameOrField
+    refuse (not (agrees b.picture.fr_fl_srib (frame_of g.format))) FrameOrField
     (refuse (not (b.reference == reference_of g.format g.first stripe column)) UnexpectedReference
     (Ok b))
 
@@ -56,4 +57,4 @@ elements_after stripe column slots b = offered_at nat_eq slots (index_of stripe 
 
 -- the sheet of the stripe: its record is offered at the column
 abbrev pub sheet_after : ℕ → List (Slot Record) → Block → List (Slot Record)
-sheet_after column sheet b = offered_at same_record sheet column b.«record»
+sheet_after column sheet b = offered_at is_same_record sheet column b.«record»

@@ -3,7 +3,7 @@ use Rattle.std.specs.Prelude.{◌≡◌, ℕ, ◌<◌, true, List, is_ok, Ok, na
 use Rattle.record.specs.declared.record.Record.{Record}
 use Rattle.format.specs.declared.table.Format.{Format}
 use Rattle.slots.specs.declared.slot.Slot.{Slot}
-use Rattle.slots.specs.Exact.{same_record}
+use Rattle.record.specs.Equality.{is_same_record}
 use Rattle.slots.specs.Slots.{offered_at}
 use Rattle.format.specs.Formats.{number_of, columns_of, element_count, index_of}
 use Rattle.image.specs.Elements.{element_of}
@@ -25,4 +25,4 @@ ReadingUndoesPlacing =
     (reading (number_of f) column rows words now ≡ Ok (block_for f first stripe column image r))
     × (gathered (record { format = f; first = first }) stripe column rows words now element_count (columns_of f) ≡ Ok (block_for f first stripe column image r))
     × ((slots : List (Slot ℕ)) → settled (gathered (record { format = f; first = first }) stripe column rows words now element_count (columns_of f)) slots (elements_after stripe column slots) ≡ offered_at nat_eq slots (index_of stripe column) (element_of image (index_of stripe column)))
-    × ((sheet : List (Slot Record)) → settled (gathered (record { format = f; first = first }) stripe column rows words now element_count (columns_of f)) sheet (sheet_after column sheet) ≡ offered_at same_record sheet column r)
+    × ((sheet : List (Slot Record)) → settled (gathered (record { format = f; first = first }) stripe column rows words now element_count (columns_of f)) sheet (sheet_after column sheet) ≡ offered_at is_same_record sheet column r)

@@ -1,6 +1,7 @@
 // Values whose equality is of every part.
 ghost use Rattle.std.specs.Prelude.{◌≡◌, Bool, Decides, nat_eq};
-ghost use Rattle.slots.specs.Exact.{same_record, numbers_exact, records_exact};
+ghost use Rattle.record.specs.Equality.{is_same_record};
+ghost use Rattle.slots.specs.Exact.{numbers_exact, records_exact};
 
 use record::Record;
 
@@ -26,7 +27,7 @@ impl Exact for u32 {
 }
 
 impl Exact for Record {
-    ghost same = { same_record };
+    ghost same = { is_same_record };
 
     ghost exact = { records_exact };
 
@@ -36,7 +37,8 @@ impl Exact for Record {
 }
 
 fn are_equal(a: &Record, b: &Record) -> bool
-    ensures { Decides result (a.now ≡ b.now) }
+    ensures computed { result ≡ is_same_record a.now b.now }
+    ensures exact { Decides result (a.now ≡ b.now) }
 {
     *a == *b
 }

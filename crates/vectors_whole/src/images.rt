@@ -1,4 +1,7 @@
 // Answers about picture images.
+ghost use Rattle.std.specs.Prelude.{◌≡◌, ◌<◌, ◌↔◌, length, bit_xor, is_ok, slice_index, slice_set, if◌then◌else◌, IsOk, Some};
+ghost use Rattle.image.specs.Elements.{element_at};
+
 use crate::case::{Words, count_of};
 use crate::stop::Stop;
 use anyhow::{Context, anyhow};
@@ -61,7 +64,10 @@ pub fn image_of(heap: Global, words: &[&str]) -> Result<SealedImage, Stop> {
     Ok(image)
 }
 
-pub fn last_element(image: &SealedImage) -> u32 {
+// The last element, which is the check.
+pub fn last_element(image: &SealedImage) -> u32
+    ensures { element_at image.now.bytes 134 ≡ Some result }
+{
     image.element(134).unwrap_or(0)
 }
 
@@ -128,7 +134,10 @@ impl Change {
         })
     }
 
-    pub fn replace(&self, bytes: &mut [u8]) -> anyhow::Result<()> {
+    pub fn replace(&self, bytes: &mut [u8]) -> anyhow::Result<()>
+        ensures there { IsOk result ↔ (self.now.place < length bytes.old) }
+        ensures bytes { bytes.new ≡ (if is_ok result then slice_set bytes.old self.now.place self.now.byte else bytes.old) }
+    {
         if self.place >= bytes.len() {
             return Err(anyhow!("a byte that is not there"));
         }
@@ -136,7 +145,10 @@ impl Change {
         Ok(())
     }
 
-    pub fn invert(&self, bytes: &mut [u8]) -> anyhow::Result<()> {
+    pub fn invert(&self, bytes: &mut [u8]) -> anyhow::Result<()>
+        ensures there { IsOk result ↔ (self.now.place < length bytes.old) }
+        ensures bytes { bytes.new ≡ (if is_ok result then slice_set bytes.old self.now.place (bit_xor (slice_index bytes.old self.now.place) self.now.byte) else bytes.old) }
+    {
         if self.place >= bytes.len() {
             return Err(anyhow!("a byte that is not there"));
         }

@@ -1,5 +1,5 @@
 // Slabs in memory that is filled from a seed.
-ghost use Rattle.std.specs.Prelude.{◌≡◌, ◌+◌, ◌*◌, ◌%◌, ◌^◌};
+ghost use Rattle.std.specs.Prelude.{◌≡◌, ◌+◌, ◌*◌, ◌/◌, ◌%◌, ◌^◌};
 
 use crate::case::Words;
 use anyhow::anyhow;
@@ -34,7 +34,9 @@ impl SlabCase {
         })
     }
 
-    pub fn extent(&self) -> Extent {
+    pub fn extent(&self) -> Extent
+        ensures { result ≡ record { rows = self.now.rows; words = self.now.words } }
+    {
         Extent {
             rows: usize::from(self.rows),
             words: usize::from(self.words),
@@ -42,12 +44,16 @@ impl SlabCase {
     }
 
     // How many columns lie wholly inside.
-    pub fn columns(&self) -> u16 {
+    pub fn columns(&self) -> u16
+        ensures { result ≡ self.now.words / 32 }
+    {
         self.words / 32
     }
 
     // The extent of the word buffer that has the slab as a field.
-    pub fn doubled(&self) -> Extent {
+    pub fn doubled(&self) -> Extent
+        ensures { result ≡ record { rows = 2 * self.now.rows; words = self.now.words } }
+    {
         Extent {
             rows: 2 * usize::from(self.rows),
             words: usize::from(self.words),

@@ -1,4 +1,7 @@
 // Answers about slots: a word for each step on a table of empty slots.
+ghost use Rattle.std.specs.Prelude.{◌≡◌, ℕ, ◌<◌, IfOk, slice_index_or, vec_len};
+ghost use Rattle.slots.specs.declared.slot.Slot.TheVariants.{Empty};
+
 use crate::case::{Words, count_of, number_of};
 use crate::stop::Stop;
 use anyhow::Context;
@@ -22,11 +25,12 @@ pub fn slots_case(heap: Global, case: &mut Words<'_>) -> Result<String, Stop> {
 }
 
 // So many empty slots.
-pub fn empties<V: Exact>(heap: Global, length: u16) -> anyhow::Result<Vec<Slot<V>>> {
+pub fn empties<V: Exact>(heap: Global, length: u16) -> anyhow::Result<Vec<Slot<V>>>
+    ensures len { IfOk result (λ v. vec_len v ≡ length) }
+    ensures empty { IfOk result (λ v. (k : ℕ) → k < length → slice_index_or v.items k Empty ≡ Empty) }
+{
     let mut slots = Vec::new(heap);
-    for _ in 0..length {
-        slots.push(Slot::Empty)?;
-    }
+    slots.resize(usize::from(length), Slot::Empty)?;
     Ok(slots)
 }
 
