@@ -3,8 +3,8 @@
 ghost use Rattle.std.specs.Prelude.{◌≡◌, length};
 ghost use Rattle.block.specs.Slab.{done};
 ghost use Rattle.format.specs.Formats.{next_first};
-ghost use Rattle.image.specs.Elements.{elements_of};
-ghost use Rattle.image.specs.Image.{sealing, done as doneImage};
+ghost use Rattle.image.specs.Elements.{elements_of, joined};
+ghost use Rattle.image.specs.Image.{sealing, overwritten, done as doneImage};
 ghost use Rattle.inserter.specs.Place.{placing};
 ghost use Rattle.extractor.specs.Gather.{starting, gathered};
 ghost use Rattle.extractor.specs.Delivery.{delivering};
@@ -27,6 +27,13 @@ pub fn steps_make_a_run()
 pub fn image_in_run(image: &SealedImage) -> [u32; 135]
     ensures answer { result ≡ elements_of image.now.bytes }
     ensures image { IsImage image.now.bytes }
+{
+    elements_from(image)
+}
+
+fn elements_from(image: &SealedImage) -> [u32; 135]
+    ensures elements { result ≡ elements_of image.now.bytes }
+    ensures back { joined result ≡ image.now.bytes }
 {
     image.elements()
 }
@@ -106,6 +113,13 @@ pub fn start_in_run(number: u32, first: u32, table: &mut Table<'_, u32>) -> Resu
 pub fn deliver_in_run(table: &Table<'_, u32>, image: &mut SealedImage) -> Result<(), Fault>
     ensures answer { result ≡ doneImage (delivering table.now.slots.now) }
     ensures step { DeliverStep table.now.slots.now image.old.bytes image.new.bytes result }
+{
+    deliver_into(table, image)
+}
+
+fn deliver_into(table: &Table<'_, u32>, image: &mut SealedImage) -> Result<(), Fault>
+    ensures answer { result ≡ doneImage (delivering table.now.slots.now) }
+    ensures image { image.new.bytes ≡ overwritten (delivering table.now.slots.now) image.old.bytes }
 {
     deliver(table, image)
 }

@@ -3,8 +3,8 @@ use Rattle.damage.proofs.ties.deliver_in_run.Goals as goal
 
 pub returns : goal.returns
 returns c =
-    let e = c.deliver.ensures in
+    let e = c.deliver_into.ensures in
     record {
       answer = e.answer;
-      step = delivered_step c.args.table.now.slots.now c.args.image.now.bytes c.deliver.new.image.bytes c.deliver.result e.answer e.image;
+      step = delivered_step c.args.table.now.slots.now c.args.image.now.bytes c.deliver_into.new.image.bytes c.deliver_into.result e.answer e.image;
     }

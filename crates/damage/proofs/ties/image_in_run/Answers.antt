@@ -7,8 +7,8 @@ use Rattle.damage.proofs.ties.image_in_run.Goals as goal
 pub returns : goal.returns
 returns c =
     let bytes = c.args.image.now.bytes in
-    let e = c.elements.ensures in
+    let e = c.elements_from.ensures in
     record {
       answer = e.elements;
-      image = (record { bytes = bytes; shape = subst (λ (l : List ℕ). Bytes l) e.back (joined_bytes c.elements.result); fit = c.args.image.now.fit }, refl);
+      image = (record { bytes = bytes; shape = subst (λ (l : List ℕ). Bytes l) e.back (joined_bytes c.elements_from.result); fit = c.args.image.now.fit }, refl);
     }
