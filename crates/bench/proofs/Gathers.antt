@@ -1,5 +1,5 @@
 -- A slab is gathered as its memory shows it.
-use Rattle.std.proofs.Common.{◌≡◌, ℕ, zero, suc, List, length, Result, refl, ◌∙◌}
+use Rattle.std.proofs.Common.{◌≡◌, ℕ, zero, suc, ◌≤◌, List, length, Result, refl, ◌∙◌}
 use Rattle.fault.specs.declared.Fault.{Fault}
 use Rattle.raster.specs.declared.extent.Extent.{Extent}
 use Rattle.buffer.specs.Packed.{packed_at}
@@ -9,7 +9,9 @@ use Rattle.slots.specs.declared.slot.Slot.{Slot}
 use Rattle.extractor.specs.declared.gathering.Gathering.{Gathering}
 use Rattle.extractor.specs.Gather.{gathered}
 use Rattle.tally.specs.Stripe.{tallied, elements_offered, records_offered}
-use Rattle.tally.proofs.Stripes.{elements_length}
+use Rattle.tally.specs.declared.kind.Kind.TheVariants.{Good}
+use Rattle.tally.proofs.Stripes.{count_below, elements_length}
+use Rattle.bench.specs.Gather.{answers_in, tally_in}
 
 -- what a gather answers of each column of a packed slab
 abbrev pub answers : Gathering → ℕ → Extent → List ℕ → ℕ → ℕ → ℕ → Result Block Fault
@@ -32,3 +34,8 @@ pub length_offered : (said : ℕ → Result Block Fault) (stripe n : ℕ) (table
 unfolding elements_offered
 length_offered said stripe zero table = refl
 length_offered said stripe (suc n) table = elements_length (said n) stripe n (elements_offered said stripe n table) ∙ length_offered said stripe n table
+
+-- no more gathers of a stripe are accepted than its sheet has slots
+pub few_good : (g : Gathering) (stripe : ℕ) (memory : List ℕ) (slots sheet : ℕ) → (tally_in g stripe memory slots sheet).good ≤ sheet
+unfolding tally_in
+few_good g stripe memory slots sheet = count_below (answers_in g stripe memory slots sheet) Good sheet

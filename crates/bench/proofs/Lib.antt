@@ -1,2 +1,2 @@
 pub mod Gathers
-mod Copies
+pub mod Stripes

@@ -1,5 +1,5 @@
 -- Gathering the slab in packed memory.
-use Rattle.std.specs.Prelude.{ℕ, List, length, Result}
+use Rattle.std.specs.Prelude.{ℕ, List, [], ◌∷◌, length, Result}
 use Rattle.fault.specs.declared.Fault.{Fault}
 use Rattle.record.specs.declared.record.Record.{Record}
 use Rattle.record.specs.declared.record.Block.{Block}
@@ -10,6 +10,7 @@ use Rattle.slots.specs.declared.slot.Slot.{Slot}
 use Rattle.slots.specs.Slots.{cleared}
 use Rattle.tally.specs.declared.kind.Tally.{Tally}
 use Rattle.tally.specs.Stripe.{tallied, elements_offered, records_offered}
+use Rattle.format.specs.declared.table.Format.TheVariants.{Bench}
 use Rattle.bench.specs.Slab.{extent_in}
 
 -- what a gather answers of each column, with a table and a sheet of so many slots
@@ -28,3 +29,19 @@ table_after g stripe memory sheet table = elements_offered (answers_in g stripe 
 -- the sheet, which is cleared first
 unfoldable pub sheet_after : Gathering → ℕ → List ℕ → ℕ → List (Slot Record) → List (Slot Record)
 sheet_after g stripe memory slots sheet = records_offered (answers_in g stripe memory slots (length sheet)) (length sheet) (cleared sheet)
+
+-- the picture that is gathered: format 4, from reference 0
+abbrev pub bench_picture : Gathering
+bench_picture = record { format = Bench; first = 0 }
+
+-- what is counted of each of the three stripes
+abbrev pub tallies_in : Gathering → List ℕ → List ℕ → List ℕ → ℕ → ℕ → List Tally
+tallies_in g first second third slots sheet = tally_in g 0 first slots sheet ∷ tally_in g 1 second slots sheet ∷ tally_in g 2 third slots sheet ∷ []
+
+-- the table after them, with a sheet of so many slots
+abbrev pub table_of : Gathering → List ℕ → List ℕ → List ℕ → ℕ → List (Slot ℕ) → List (Slot ℕ)
+table_of g first second third sheet table = table_after g 2 third sheet (table_after g 1 second sheet (table_after g 0 first sheet table))
+
+-- the sheet after them, with a table of so many slots: each stripe clears it first
+abbrev pub sheet_of : Gathering → List ℕ → List ℕ → List ℕ → ℕ → List (Slot Record) → List (Slot Record)
+sheet_of g first second third slots sheet = sheet_after g 2 third slots (sheet_after g 1 second slots (sheet_after g 0 first slots sheet))

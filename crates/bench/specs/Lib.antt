@@ -1,2 +1,4 @@
 pub mod Slab
 pub mod Gather
+pub mod Line
+pub mod Stripe

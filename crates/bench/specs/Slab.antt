@@ -1,6 +1,8 @@
 -- A slab of the bench picture.
-use Rattle.std.specs.Prelude.{ℕ, ◌-◌, List, ◌++◌, length, take, replicate}
+use Rattle.std.specs.Prelude.{ℕ, ◌-◌, List, ◌++◌, length, take, replicate, min}
 use Rattle.raster.specs.declared.extent.Extent.{Extent}
+use Rattle.raster.specs.Difference.{differing}
+use Rattle.buffer.specs.Packed.{packed_at}
 use Rattle.buffer.specs.Size.{granted, bytes_of}
 
 -- 16 rows of 1,440 words
@@ -14,3 +16,10 @@ extent_in memory = granted slab_extent (bytes_of slab_extent) (length memory)
 -- a slab of standard input: bytes that are missing count as 0
 abbrev pub padded : ℕ → List ℕ → List ℕ
 padded n bytes = take n bytes ++ replicate (n - length bytes) 0
+
+-- how many words differ between the slabs in two memories
+abbrev pub moved_in : List ℕ → List ℕ → ℕ
+moved_in before after =
+    let a = extent_in before in
+    let b = extent_in after in
+    differing (packed_at before a.words) (packed_at after b.words) (min a.rows b.rows) (min a.words b.words)

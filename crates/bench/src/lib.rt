@@ -4,11 +4,17 @@
 mod empty;
 mod gather;
 mod input;
+mod line;
+mod moved;
+mod picture;
 mod slab;
 mod slabs;
 
 pub use empty::empty_slots;
 pub use gather::gather_slab;
 pub use input::{pad, read_slab};
+pub use line::StripeLine;
+pub use moved::count_moved;
+pub use picture::{gather_picture, start_picture};
 pub use slab::slab_in;
 pub use slabs::Slabs;

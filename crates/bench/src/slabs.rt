@@ -5,18 +5,20 @@ use crate::input::read_slab;
 use std::alloc::AllocError;
 use std::io;
 
+// One for each stripe, each of 28,800 bytes. They have names and are no array, since each is lent by itself and has its own clauses.
 #[derive(Drop)]
 pub struct Slabs {
     pub first: Vec<u8>,
     pub second: Vec<u8>,
     pub third: Vec<u8>,
+    ghost first_full: { vec_len first ≡ 28800 },
+    ghost second_full: { vec_len second ≡ 28800 },
+    ghost third_full: { vec_len third ≡ 28800 },
 }
 
 impl Slabs {
     // The slabs of standard input.
-    pub fn read(rt: &HostRuntime) -> io::Result<Slabs>
-        ensures { IfOk result (λ s. (vec_len s.first ≡ 28800) × (vec_len s.second ≡ 28800) × (vec_len s.third ≡ 28800)) }
-    {
+    pub fn read(rt: &HostRuntime) -> io::Result<Slabs> {
         let first = read_slab(rt)?;
         let second = read_slab(rt)?;
         let third = read_slab(rt)?;
@@ -26,11 +28,13 @@ impl Slabs {
             third,
         })
     }
+}
 
-    pub fn copy(&self) -> Result<Slabs, AllocError>
-        ensures items { IfOk result (λ s. (s.first.items ≡ self.now.first.items) × (s.second.items ≡ self.now.second.items) × (s.third.items ≡ self.now.third.items)) }
-        ensures len { IfOk result (λ s. (vec_len s.first ≡ vec_len self.now.first) × (vec_len s.second ≡ vec_len self.now.second) × (vec_len s.third ≡ vec_len self.now.third)) }
-    {
+// By hand, since no derive is for a type with invariants.
+impl Clone for Slabs {
+    ghost is_clone = { λ s t. (t.first.items ≡ s.first.items) × ((t.second.items ≡ s.second.items) × (t.third.items ≡ s.third.items)) };
+
+    fn clone(&self) -> Result<Slabs, AllocError> {
         let first = copy_of(&self.first)?;
         let second = copy_of(&self.second)?;
         let third = copy_of(&self.third)?;
@@ -42,6 +46,7 @@ impl Slabs {
     }
 }
 
+// The same bytes.
 fn copy_of(bytes: &Vec<u8>) -> Result<Vec<u8>, AllocError>
     ensures items { IfOk result (λ v. v.items ≡ bytes.now.items) }
     ensures len { IfOk result (λ v. vec_len v ≡ vec_len bytes.now) }

@@ -1,13 +1,13 @@
 -- Encoding and decoding whole blocks.
-use Rattle.std.proofs.Common.{◌≡◌, ℕ, ◌^◌, ◌<◌, ◌≤◌, Bool, true, false, not, ltb, List, length, get_or, take, is_ok, IfOk, Ok, Err, Decides, Result, sym, refl, ap, ◌∙◌, subst, inl, inr, arith}
+use Rattle.std.proofs.Common.{◌≡◌, ℕ, ◌^◌, ◌<◌, ◌≤◌, Bool, true, false, List, length, take, is_ok, IfOk, Ok, Err, Decides, Result, sym, refl, ap, ◌∙◌, subst, inl, inr, arith}
 use lib.Seq.{take-append_seam}
 use Rattle.std.proofs.lemmas.Bool.Decides.{nat_tests}
 use Rattle.std.proofs.lemmas.Bool.{cases_Bool}
+pub use Rattle.std.proofs.lemmas.Bool.{not-false}
 use Rattle.std.proofs.ByRecursion.{All-from_get_or, All-get_or}
-use Rattle.std.specs.List.{AllByRecursion}
 use Rattle.fault.specs.declared.Fault.{Fault}
 use Rattle.fault.specs.declared.Fault.TheVariants.{ReferenceRange}
-use Rattle.crc.specs.Burst.{Rows, CheckFits, check_fits, with_check}
+use Rattle.crc.specs.Burst.{Rows, CheckFits, with_check}
 use Rattle.crc.proofs.Bursts.{fitting_decides, burst_never_passes, checked_fits}
 use Rattle.crc.proofs.Laws.{first_rows, checked_from_fits}
 use Rattle.record.specs.declared.record.Block.{Block}
@@ -19,47 +19,25 @@ use Rattle.block.specs.Code.{refuse, then, rows_of, encoded, block_in, decoded, 
 
 -- a test that refuses was passed
 pub passed : {A : Type 0} (test : Bool) (fault : Fault) (rest : Result A Fault) → is_ok (refuse test fault rest) ≡ true → (test ≡ false) × (is_ok rest ≡ true)
-passed true fault rest e = absurd (let z : ◌≡◌ {A = ℕ} 0 1 = cc in omega arith)
+passed true fault rest e = cc
 passed false fault rest e = (refl, e)
-
-pub not-false : (b : Bool) → not b ≡ false → b ≡ true
-not-false true e = refl
-not-false false e = cc
 
 -- what is accepted is well formed, and the answer is the block that the rows spell
 module _ (rows : List ℕ) where
   formed_if_accepted : is_ok (decoded rows) ≡ true → WellFormed rows
-  formed_if_accepted e =
-      let s = passed (not (has_sync (take 14 rows))) _ _ e in
-      let c = passed (not (check_fits rows)) _ _ s.1 in
-      let r = passed (not (reserved_clear (take 14 rows))) _ _ c.1 in
-      let n = passed (ltb 65520 (block_in rows).reference) _ _ r.1 in
-      let k = passed (not (keeps_rules (block_in rows).«record»)) _ _ n.1 in
-      record {
-        sync = not-false _ s.0;
-        check = (fitting_decides rows).0 (not-false _ c.0);
-        reserved = not-false _ r.0;
-        reference = let h = n.0 in grind (arith, nat_tests);
-        rules = not-false _ k.0;
-      }
+  formed_if_accepted e = let d = fitting_decides rows in grind (arith, nat_tests)
 
   pub accepted_if_formed : WellFormed rows → decoded rows ≡ Ok (block_in rows)
-  accepted_if_formed w =
-      let f : check_fits rows ≡ true = (fitting_decides rows).1 w.check in
-      let n : ltb 65520 (block_in rows).reference ≡ false = let h = w.reference in grind (arith, nat_tests) in
-      rw (w.sync, f, w.reserved, n, w.rules)
+  accepted_if_formed w = let d = fitting_decides rows in grind (arith, nat_tests)
 
   pub accepts : Decides (is_ok (decoded rows)) (WellFormed rows)
   accepts = (formed_if_accepted, λ w. rw (accepted_if_formed w))
 
 -- 14 narrow rows, as the record's laws want them
-all_narrow : (rows : List ℕ) → ((i : ℕ) → i < length rows → get_or rows i 0 < 2 ^ 16) → AllByRecursion (λ row. row < 2 ^ 16) rows
-all_narrow rows h = All-from_get_or (λ row. row < 2 ^ 16) rows 0 h
-
 data_formed : (rows : List ℕ) → Rows 16 rows → WellFormed rows → Formed (take 14 rows)
 data_formed rows k w =
     let f = first_rows rows k in
-    record { count = f.long; narrow = all_narrow (take 14 rows) (λ i h. f.narrow i (omega (arith, f.long))); sync = w.sync; reserved = w.reserved }
+    record { count = f.long; narrow = All-from_get_or (λ row. row < 2 ^ 16) (take 14 rows) 0 (λ i h. f.narrow i (omega (arith, f.long))); sync = w.sync; reserved = w.reserved }
 
 -- what a record's check says of it
 pub checked_ok : (b : Block) → checked b.«record» ≡ Ok tt → (fits_widths b.«record» ≡ true) × (keeps_rules b.«record» ≡ true)
@@ -103,12 +81,11 @@ module _ (b : Block) (f : Formed (data_rows b)) (u : block_of (data_rows b) ≡ 
 
   pub decoded_above : 65520 < b.reference → decoded (rows_of b) ≡ Err ReferenceRange
   decoded_above h =
-      let s : has_sync (take 14 (rows_of b)) ≡ true = ap has_sync data_back ∙ f.sync in
-      let c : check_fits (rows_of b) ≡ true = (fitting_decides (rows_of b)).1 whole.1 in
-      let r : reserved_clear (take 14 (rows_of b)) ≡ true = ap reserved_clear data_back ∙ f.reserved in
-      let e : (block_in (rows_of b)).reference ≡ b.reference = ap (λ x. x.reference) block_back in
-      let n : ltb 65520 (block_in (rows_of b)).reference ≡ true = grind (arith, nat_tests) in
-      rw (s, c, r, n)
+      let s = ap has_sync data_back ∙ f.sync in
+      let c = (fitting_decides (rows_of b)).1 whole.1 in
+      let r = ap reserved_clear data_back ∙ f.reserved in
+      let e = ap (λ x. x.reference) block_back in
+      grind (arith, nat_tests)
 
 -- a block whose record is accepted and whose numbers fit: its rows are well formed, and decoding gives it back
 pub record Sound (b : Block) : Type 0 where

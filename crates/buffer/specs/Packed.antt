@@ -1,7 +1,8 @@
 -- The packed buffer: each five bytes hold four words, from the highest bit down, and a row begins where the one before it ends.
-use Rattle.std.specs.Prelude.{◌≡◌, ℕ, ◌+◌, ◌-◌, ◌*◌, ◌/◌, ◌%◌, ◌^◌, ◌<◌, ◌≤◌, Bool, cond, List, length, slice_index, slice_set, refl}
-use Rattle.std.proofs.Common.{arith, ◌∙◌}
-use Rattle.raster.specs.Meaning.{inside, replaced}
+use Rattle.std.specs.Prelude.{◌≡◌, ℕ, ◌+◌, ◌-◌, ◌*◌, ◌/◌, ◌%◌, ◌^◌, ◌<◌, ◌≤◌, Bool, cond, List, slice_index}
+use Rattle.std.proofs.Common.{arith, ◌∙◌, ap, sym, mul_assoc}
+use Rattle.raster.specs.declared.extent.Extent.{Extent}
+use Rattle.buffer.specs.Size.{bytes_of}
 
 abbrev pub byte_at : List ℕ → ℕ → ℕ
 byte_at m i = slice_index m i % 256
@@ -25,6 +26,10 @@ packed_word m n = ten_of (group m (n / 4)) (n % 4)
 abbrev pub packed_at : List ℕ → ℕ → ℕ → ℕ → ℕ
 packed_at m w i j = packed_word m (i * w + j)
 
+-- all of the n-th word but bit 0
+abbrev pub packed_above : List ℕ → ℕ → ℕ
+packed_above m n = packed_word m n / 2
+
 pub packed_ten : (m : List ℕ) (n : ℕ) → packed_word m n < 1024
 unfolding packed_word
 packed_ten m n = omega arith
@@ -40,26 +45,20 @@ unit_of q = 2 ^ (6 - 2 * q)
 abbrev pub with_unit : ℕ → ℕ → Bool → ℕ
 with_unit x u bit = x / (2 * u) * (2 * u) + cond bit u 0 + x % u
 
--- the bytes after a set: one bit of one byte replaced, if the word lies inside
-abbrev pub bytes_after : List ℕ → ℕ → ℕ → ℕ → ℕ → Bool → List ℕ
-bytes_after m rows w row place bit =
-    let n = row * w + place in
-    cond (inside rows w row place) (slice_set m (home_of n) (with_unit (byte_at m (home_of n)) (unit_of (n % 4)) bit)) m
+-- that byte after a set
+abbrev pub byte_written : List ℕ → ℕ → Bool → ℕ
+byte_written m n bit = with_unit (byte_at m (home_of n)) (unit_of (n % 4)) bit
 
--- From m to m' the words differ in bit 0 at the most, and the bytes from n on not at all.
-pub record BytesKept (n : ℕ) (m m' : List ℕ) : Type 0 where
-  pub long : length m' ≡ length m
-  pub upper : (k : ℕ) → packed_word m' k / 2 ≡ packed_word m k / 2
-  pub past : (i : ℕ) → n ≤ i → slice_index m' i ≡ slice_index m i
+-- the ten bits of two bytes that end with the bit of value unit_of q
+abbrev pub across : ℕ → ℕ → ℕ → ℕ
+across q x y = (x * 256 + y) / unit_of q % 1024
 
-pub bytes_still : (n : ℕ) (m : List ℕ) → BytesKept n m m
-bytes_still n m = record { long = refl; upper = λ i. refl; past = λ i h. refl }
+-- rows of words that are a multiple of four are so many fours
+fours : (e : Extent) → e.words % 4 ≡ 0 → e.rows * e.words ≡ e.rows * (e.words / 4) * 4
+fours e f = let wide : e.words ≡ e.words / 4 * 4 = omega (arith, f) in ap (λ x. e.rows * x) wide ∙ sym (mul_assoc e.rows (e.words / 4) 4)
 
-pub bytes_onward : {n : ℕ} {m m' m'' : List ℕ} → BytesKept n m m' → BytesKept n m' m'' → BytesKept n m m''
-bytes_onward p q = record { long = q.long ∙ p.long; upper = λ i. q.upper i ∙ p.upper i; past = λ i h. q.past i h ∙ p.past i h }
+pub bytes_enough : (e : Extent) → e.words % 4 ≡ 0 → e.rows * e.words ≤ bytes_of e
+bytes_enough e f = omega (arith, fours e f)
 
--- m' is m after a set at a row and a place inside: all of memory, what is kept, and each word. The extent needs e bytes.
-pub record BytesSet (e rows w row place : ℕ) (bit : Bool) (m m' : List ℕ) : Type 0 where
-  pub whole : m' ≡ bytes_after m rows w row place bit
-  pub kept : BytesKept e m m'
-  pub after : (i j : ℕ) → i < rows → j < w → packed_at m' w i j ≡ replaced (packed_at m w) row place bit i j
+pub bytes_within : (e : Extent) (n : ℕ) → e.words % 4 ≡ 0 → n < e.rows * e.words → home_of n < bytes_of e
+bytes_within e n f h = omega (arith, fours e f)

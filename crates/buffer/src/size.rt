@@ -10,22 +10,16 @@ use raster::Extent;
 pub(crate) fn is_lawful(extent: Extent) -> bool
     ensures { result ≡ lawful extent }
 {
-    extent.rows >= 1
-        && extent.rows <= 1088
-        && extent.words >= 4
-        && extent.words <= 3840
-        && extent.words % 4 == 0
+    (1..=1088).contains(&extent.rows) && (4..=3840).contains(&extent.words) && extent.words % 4 == 0
 }
 
 // The number of the word at a row and a place, counted along the rows.
+#[tactic(auto, using(crate::proofs::Places::before_end))]
 pub(crate) fn index(extent: Extent, row: usize, place: usize) -> Result<usize, Fault>
     requires { extent.rows * extent.words < 2 ^ 64 }
     ensures answer { result ≡ answered extent.rows extent.words row place (row * extent.words + place) }
     ensures within { IfOk result (Numbered extent.rows extent.words row place) }
 {
-    if row < extent.rows && place < extent.words {
-        Ok(row * extent.words + place)
-    } else {
-        Err(Fault::Outside { row, word: place })
-    }
+    extent.check(row, place)?;
+    Ok(row * extent.words + place)
 }

@@ -1,2 +1,2 @@
 mod Stripes
-mod Benches
+mod Contents

@@ -1,4 +1,1 @@
-pub mod Bench
-pub mod Stripe
-pub mod Line
-pub mod Slab
+pub mod Content

@@ -1,15 +1,17 @@
 // One stripe: writing the blocks, and reading them back.
-ghost use Rattle.std.specs.Prelude.{◌≡◌, ℕ, ◌+◌, ◌*◌, ◌<◌, length, Ok, Decides};
+// The program carry_picture has the like over the picture calls: what they come to is stated once, in the crate bench; the calls are others.
+ghost use Rattle.std.specs.Prelude.{◌≡◌, ℕ, ◌+◌, ◌*◌, ◌<◌, length, Ok};
 ghost use Rattle.raster.specs.Difference.{differing};
 ghost use Rattle.buffer.specs.Packed.{packed_at};
-ghost use Rattle.carry.specs.Stripe.{Reads, Written, Laden, Counted};
+ghost use Rattle.bench.specs.Stripe.{reads, count_read, Written, Laden};
+ghost use Rattle.carry.specs.Content.{block_in};
 
-use crate::bench::block_at;
-use crate::line::StripeLine;
+use crate::content::block_at;
+use bench::{StripeLine, count_moved, slab_in};
 use block::{read_block, write_block};
-use buffer::PackedBuffer;
+use exact::is_same;
 use fault::Fault;
-use raster::{Extent, Raster, count_differing};
+use raster::Raster;
 
 const COLUMNS: usize = 45;
 
@@ -17,10 +19,8 @@ const COLUMNS: usize = 45;
 pub(crate) fn write_stripe<R: Raster>(slab: &mut R, stripe: usize) -> Result<(), Fault>
     requires { (R.Raster.rows slab.old ≡ 16) × ((R.Raster.words slab.old ≡ 1440) × (stripe < 3)) }
     ensures answer { result ≡ Ok tt }
-    ensures rows { R.Raster.rows slab.new ≡ R.Raster.rows slab.old }
-    ensures words { R.Raster.words slab.new ≡ R.Raster.words slab.old }
     ensures kept { R.Raster.kept slab.old slab.new }
-    ensures laden { Laden stripe 1440 45 (R.Raster.at slab.old) (R.Raster.at slab.new) }
+    ensures laden { Laden block_in stripe 1440 45 (R.Raster.at slab.old) (R.Raster.at slab.new) }
 {
     for column in 0..COLUMNS {
         write_at(slab, stripe, column)?;
@@ -32,10 +32,8 @@ pub(crate) fn write_stripe<R: Raster>(slab: &mut R, stripe: usize) -> Result<(),
 fn write_at<R: Raster>(slab: &mut R, stripe: usize, column: usize) -> Result<(), Fault>
     requires { (R.Raster.rows slab.old ≡ 16) × ((R.Raster.words slab.old ≡ 1440) × ((stripe < 3) × (column < 45))) }
     ensures answer { result ≡ Ok tt }
-    ensures rows { R.Raster.rows slab.new ≡ 16 }
-    ensures words { R.Raster.words slab.new ≡ 1440 }
     ensures kept { R.Raster.kept slab.old slab.new }
-    ensures one { Written stripe column 1440 (R.Raster.at slab.old) (R.Raster.at slab.new) }
+    ensures one { Written block_in stripe column 1440 (R.Raster.at slab.old) (R.Raster.at slab.new) }
 {
     write_block(slab, column, &block_at(COLUMNS * stripe + column))
 }
@@ -43,24 +41,20 @@ fn write_at<R: Raster>(slab: &mut R, stripe: usize, column: usize) -> Result<(),
 // How many macroblocks are read as their blocks.
 pub(crate) fn count_read<R: Raster>(slab: &R, stripe: usize) -> usize
     requires { (R.Raster.rows slab.now ≡ 16) × ((R.Raster.words slab.now ≡ 1440) × (stripe < 3)) }
-    ensures { Counted (Reads (R.Raster.at slab.now) stripe) 45 result }
+    ensures { result ≡ count_read block_in (R.Raster.at slab.now) stripe 45 }
 {
-    let mut read = 0;
-    for column in 0..COLUMNS {
-        if reads_back(slab, stripe, column) {
-            read += 1;
-        }
-    }
-    read
+    (0..COLUMNS)
+        .filter(|column| reads_back(slab, stripe, *column))
+        .count()
 }
 
 // Whether a macroblock is read as its block.
 fn reads_back<R: Raster>(slab: &R, stripe: usize, column: usize) -> bool
     requires { (R.Raster.rows slab.now ≡ 16) × ((R.Raster.words slab.now ≡ 1440) × ((stripe < 3) × (column < 45))) }
-    ensures { Decides result (Reads (R.Raster.at slab.now) stripe column) }
+    ensures { result ≡ reads block_in (R.Raster.at slab.now) stripe column }
 {
     match read_block(slab, column) {
-        Ok(block) => block == block_at(COLUMNS * stripe + column),
+        Ok(block) => is_same(&block, &block_at(COLUMNS * stripe + column)),
         Err(_) => false,
     }
 }
@@ -74,10 +68,10 @@ pub(crate) fn carry_stripe(
     requires { (stripe < 3) × ((length before.old ≡ 28800) × (length after.old ≡ 28800)) }
     ensures answer { result ≡ Ok (record { stripe = stripe; moved = differing (packed_at before.old 1440) (packed_at after.new 1440) 16 1440; read = 45 }) }
     ensures before { before.new ≡ before.old }
-    ensures laden { Laden stripe 1440 45 (packed_at after.old 1440) (packed_at after.new 1440) }
+    ensures laden { Laden block_in stripe 1440 45 (packed_at after.old 1440) (packed_at after.new 1440) }
 {
     let read = write_and_read(stripe, after)?;
-    let moved = moved_words(before, after)?;
+    let moved = count_moved(before, after)?;
     Ok(StripeLine {
         stripe,
         moved,
@@ -85,40 +79,12 @@ pub(crate) fn carry_stripe(
     })
 }
 
-// The slab of a stripe in packed memory.
-fn slab_in(memory: &mut [u8]) -> PackedBuffer<'_>
-    requires { length memory.old ≡ 28800 }
-    ensures rows { result.extent.rows ≡ 16 }
-    ensures words { result.extent.words ≡ 1440 }
-    ensures value { result.memory.now ≡ memory.old }
-    ensures name { result.memory.ghost_name ≡ memory.entry.ghost_name }
-{
-    PackedBuffer::new(
-        Extent {
-            rows: 16,
-            words: 1440,
-        },
-        memory,
-    )
-}
-
 fn write_and_read(stripe: usize, memory: &mut [u8]) -> Result<usize, Fault>
     requires { (stripe < 3) × (length memory.old ≡ 28800) }
     ensures answer { result ≡ Ok 45 }
-    ensures laden { Laden stripe 1440 45 (packed_at memory.old 1440) (packed_at memory.new 1440) }
+    ensures laden { Laden block_in stripe 1440 45 (packed_at memory.old 1440) (packed_at memory.new 1440) }
 {
     let mut slab = slab_in(memory);
     write_stripe(&mut slab, stripe)?;
     Ok(count_read(&slab, stripe))
-}
-
-fn moved_words(before: &mut [u8], after: &mut [u8]) -> Result<u128, Fault>
-    requires { (length before.old ≡ 28800) × (length after.old ≡ 28800) }
-    ensures answer { result ≡ Ok (differing (packed_at before.old 1440) (packed_at after.old 1440) 16 1440) }
-    ensures before { before.new ≡ before.old }
-    ensures after { after.new ≡ after.old }
-{
-    let input = slab_in(before);
-    let output = slab_in(after);
-    count_differing(&input, &output)
 }

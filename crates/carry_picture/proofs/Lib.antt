@@ -1,3 +1,2 @@
 mod Contents
 mod Stripes
-mod Counts

@@ -19,31 +19,7 @@ pub(crate) fn blank_image() -> SealedImage
 pub(crate) fn zero_record() -> Record
     ensures { result ≡ zero_record }
 {
-    Record {
-        mb_quant: false,
-        mb_mfwd: false,
-        mb_mbwd: false,
-        mb_pattern: false,
-        mb_intra: false,
-        dct_type: false,
-        mv000: 0,
-        mv001: 0,
-        mv010: 0,
-        mv011: 0,
-        mv100: 0,
-        mv101: 0,
-        mv110: 0,
-        mv111: 0,
-        motion_type: 0,
-        skipped_mb: false,
-        num_other_bits: 0,
-        slice_start_flag: false,
-        num_mv_bits: 0,
-        q_scale_code: 0,
-        mb_vert_field_sel: 0,
-        num_coef_bits: 0,
-        coded_block_pattern: 0,
-    }
+    Record::default()
 }
 
 // The block that a macroblock is to carry.

@@ -1,10 +1,10 @@
 // Carries records through a bench picture: places them in three packed slabs, reads them back, gathers them, and says what moved.
 #![tactic(auto)]
 
-use bench::{Slabs, empty_slots};
-use gathering::gather_picture;
+use bench::{Slabs, StripeLine, empty_slots};
+use gathering::gather_line;
 use line::PictureLine;
-use picture::{Carried, carry_picture};
+use picture::carry_picture;
 use std::{env, fs, io};
 
 mod content;
@@ -20,32 +20,19 @@ fn main(rt: HostRuntime) -> anyhow::Result<()> {
 
 fn run(rt: &HostRuntime) -> anyhow::Result<()> {
     let mut before = Slabs::read(rt)?;
-    let mut after = before.copy()?;
-    let carried = carry_picture(
-        &mut before.first,
-        &mut before.second,
-        &mut before.third,
-        &mut after.first,
-        &mut after.second,
-        &mut after.third,
-    )?;
+    let mut after = before.clone()?;
+    let carried = carry_picture(&mut before, &mut after)?;
     let mut slots = empty_slots(rt.alloc(), 135)?;
     let mut sheet = empty_slots(rt.alloc(), 45)?;
-    let picture = gather_picture(
-        &mut after.first,
-        &mut after.second,
-        &mut after.third,
-        &mut slots,
-        &mut sheet,
-    )?;
-    show(rt, carried, picture)?;
+    let picture = gather_line(&mut after, &mut slots, &mut sheet)?;
+    show(rt, &carried, picture)?;
     save(rt, &after)
 }
 
-fn show(rt: &HostRuntime, carried: Carried, picture: PictureLine) -> io::Result<()> {
-    rt.println(carried.first)?;
-    rt.println(carried.second)?;
-    rt.println(carried.third)?;
+fn show(rt: &HostRuntime, carried: &[StripeLine; 3], picture: PictureLine) -> io::Result<()> {
+    for line in carried {
+        rt.println(line)?;
+    }
     rt.println(picture)
 }
 

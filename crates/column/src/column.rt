@@ -15,8 +15,6 @@ use raster::{Extent, Raster};
 // carries, no other column carries anything new, only bit 0 of even words of the column changes, and so at most 256 words.
 pub fn embed<R: Raster>(slab: &mut R, column: usize, rows: &[u16; 16]) -> Result<(), Fault>
     ensures answer { result ≡ within (R.Raster.rows slab.old) (R.Raster.words slab.old) column tt }
-    ensures rows { R.Raster.rows slab.new ≡ R.Raster.rows slab.old }
-    ensures words { R.Raster.words slab.new ≡ R.Raster.words slab.old }
     ensures kept { R.Raster.kept slab.old slab.new }
     ensures after { (i j : ℕ) → i < R.Raster.rows slab.old → j < R.Raster.words slab.old → R.Raster.at slab.new i j ≡ (if is_ok result then embedded (R.Raster.at slab.old) column rows.now i j else R.Raster.at slab.old i j) }
     ensures reads { result ≡ Ok tt → carried_rows (R.Raster.at slab.new) column ≡ rows.now }
@@ -33,7 +31,7 @@ pub fn carried<R: Raster>(slab: &R, column: usize) -> Result<[u16; 16], Fault>
     ensures { result ≡ within (R.Raster.rows slab.now) (R.Raster.words slab.now) column (carried_rows (R.Raster.at slab.now) column) }
 {
     let window = window_of(slab.extent(), column)?;
-    read_rows(slab, window)
+    Seen { slab, window }.rows()
 }
 
 // Whether a raster of this extent is a slab, and the column lies wholly inside it.
@@ -67,17 +65,16 @@ fn window_of(extent: Extent, column: usize) -> Result<Window, Fault>
     })
 }
 
-// Each row of the block into its row of the window.
+// Each row of the block into its row of the window. That the window lies in the slab is asked of each function that writes: a struct over the
+// lent slab would have each say instead that its window and its loan stay, which is more.
 fn embed_rows<R: Raster>(slab: &mut R, window: Window, rows: &[u16; 16]) -> Result<(), Fault>
     requires { Lies window (R.Raster.rows slab.old) (R.Raster.words slab.old) }
     ensures answer { result ≡ Ok tt }
-    ensures rows { R.Raster.rows slab.new ≡ R.Raster.rows slab.old }
-    ensures words { R.Raster.words slab.new ≡ R.Raster.words slab.old }
     ensures kept { R.Raster.kept slab.old slab.new }
     ensures after { (i j : ℕ) → i < R.Raster.rows slab.old → j < R.Raster.words slab.old → R.Raster.at slab.new i j ≡ rows_to (R.Raster.at slab.old) window rows.now 16 i j }
 {
-    for row in 0..16 {
-        embed_row(slab, window, row, rows[row])?;
+    for (row, value) in rows.iter().enumerate() {
+        embed_row(slab, window, row, *value)?;
     }
     Ok(())
 }
@@ -86,8 +83,6 @@ fn embed_rows<R: Raster>(slab: &mut R, window: Window, rows: &[u16; 16]) -> Resu
 fn embed_row<R: Raster>(slab: &mut R, window: Window, row: usize, value: u16) -> Result<(), Fault>
     requires { (Lies window (R.Raster.rows slab.old) (R.Raster.words slab.old)) × (row < 16) }
     ensures answer { result ≡ Ok tt }
-    ensures rows { R.Raster.rows slab.new ≡ R.Raster.rows slab.old }
-    ensures words { R.Raster.words slab.new ≡ R.Raster.words slab.old }
     ensures kept { R.Raster.kept slab.old slab.new }
     ensures after { (i j : ℕ) → i < R.Raster.rows slab.old → j < R.Raster.words slab.old → R.Raster.at slab.new i j ≡ (if nat_eq i (window.row + row) then line_to (R.Raster.at slab.old i) window.word value 16 j else R.Raster.at slab.old i j) }
 {
@@ -115,12 +110,14 @@ fn embed_bit<R: Raster>(
 ) -> Result<(), Fault>
     requires { (Lies window (R.Raster.rows slab.old) (R.Raster.words slab.old)) × ((row < 16) × (k < 16)) }
     ensures answer { result ≡ Ok tt }
-    ensures rows { R.Raster.rows slab.new ≡ R.Raster.rows slab.old }
-    ensures words { R.Raster.words slab.new ≡ R.Raster.words slab.old }
     ensures kept { R.Raster.kept slab.old slab.new }
     ensures after { (i j : ℕ) → i < R.Raster.rows slab.old → j < R.Raster.words slab.old → R.Raster.at slab.new i j ≡ replaced (R.Raster.at slab.old) (window.row + row) (window.word + 2 * k) (is_one (scrambled (R.Raster.at slab.old (window.row + row) (window.word + 2 * k)) (R.Raster.at slab.old (window.row + row) (window.word + 2 * k + 1)) (one_if bit))) i j }
 {
-    let (chroma, luma) = look_pair(slab, window, row, k)?;
+    let (chroma, luma) = Seen {
+        slab: &*slab,
+        window,
+    }
+    .pair(row, k)?;
     slab.set(
         window.row + row,
         window.word + 2 * k,
@@ -128,51 +125,55 @@ fn embed_bit<R: Raster>(
     )
 }
 
-// Each row that the window carries.
-fn read_rows<R: Raster>(slab: &R, window: Window) -> Result<[u16; 16], Fault>
-    requires { Lies window (R.Raster.rows slab.now) (R.Raster.words slab.now) }
-    ensures { result ≡ Ok (rows_of (R.Raster.at slab.now) window) }
-{
-    let mut rows = [0u16; 16];
-    for i in 0..16 {
-        rows[i] = read_row(slab, window, i)?;
-    }
-    Ok(rows)
-}
-
-// The row that the chroma words of a row carry, the most significant bit first.
-fn read_row<R: Raster>(slab: &R, window: Window, row: usize) -> Result<u16, Fault>
-    requires { (Lies window (R.Raster.rows slab.now) (R.Raster.words slab.now)) × (row < 16) }
-    ensures { result ≡ Ok (row_of (R.Raster.at slab.now) window row) }
-{
-    let mut value = 0u16;
-    for k in 0..16 {
-        value = read_bit(slab, window, row, k, value)?;
-    }
-    Ok(value)
-}
-
-// The bits before bit k, and that bit after them: two looks.
-fn read_bit<R: Raster>(
-    slab: &R,
+// A window in a slab, inside which it lies, to be read.
+#[derive(Drop)]
+struct Seen<'a, R: Raster> {
+    slab: &'a R,
     window: Window,
-    row: usize,
-    k: usize,
-    before: u16,
-) -> Result<u16, Fault>
-    requires { (Lies window (R.Raster.rows slab.now) (R.Raster.words slab.now)) × ((row < 16) × ((k < 16) × (before ≡ spelled (R.Raster.at slab.now (window.row + row)) window.word k))) }
-    ensures { result ≡ Ok (spelled (R.Raster.at slab.now (window.row + row)) window.word (k + 1)) }
-{
-    let (chroma, luma) = look_pair(slab, window, row, k)?;
-    Ok(before * 2 + u16::from(carried_bit(chroma, luma)))
+    ghost lies: { Lies window (R.Raster.rows slab.now) (R.Raster.words slab.now) },
 }
 
-// The chroma word of bit k of a row, and the luma word after it.
-fn look_pair<R: Raster>(slab: &R, window: Window, row: usize, k: usize) -> Result<(u16, u16), Fault>
-    requires { (Lies window (R.Raster.rows slab.now) (R.Raster.words slab.now)) × ((row < 16) × (k < 16)) }
-    ensures { result ≡ Ok (R.Raster.at slab.now (window.row + row) (window.word + 2 * k), R.Raster.at slab.now (window.row + row) (window.word + 2 * k + 1)) }
-{
-    let chroma = slab.look(window.row + row, window.word + 2 * k)?;
-    let luma = slab.look(window.row + row, window.word + 2 * k + 1)?;
-    Ok((chroma, luma))
+impl<R: Raster> Seen<'_, R> {
+    // Each row that the window carries.
+    fn rows(&self) -> Result<[u16; 16], Fault>
+        ensures { result ≡ Ok (rows_of (R.Raster.at self.now.slab.now) self.now.window) }
+    {
+        let mut rows = [0u16; 16];
+        for (i, row) in rows.iter_mut().enumerate() {
+            *row = self.row(i)?;
+        }
+        Ok(rows)
+    }
+
+    // The row that the chroma words of a row carry, the most significant bit first.
+    fn row(&self, row: usize) -> Result<u16, Fault>
+        requires { row < 16 }
+        ensures { result ≡ Ok (row_of (R.Raster.at self.now.slab.now) self.now.window row) }
+    {
+        let mut value = 0u16;
+        for k in 0..16 {
+            value = self.bit(row, k, value)?;
+        }
+        Ok(value)
+    }
+
+    // The bits before bit k, and that bit after them: two looks.
+    fn bit(&self, row: usize, k: usize, before: u16) -> Result<u16, Fault>
+        requires { (row < 16) × ((k < 16) × (before ≡ spelled (R.Raster.at self.now.slab.now (self.now.window.row + row)) self.now.window.word k)) }
+        ensures { result ≡ Ok (spelled (R.Raster.at self.now.slab.now (self.now.window.row + row)) self.now.window.word (k + 1)) }
+    {
+        let (chroma, luma) = self.pair(row, k)?;
+        Ok(before * 2 + u16::from(carried_bit(chroma, luma)))
+    }
+
+    // The chroma word of bit k of a row, and the luma word after it.
+    fn pair(&self, row: usize, k: usize) -> Result<(u16, u16), Fault>
+        requires { (row < 16) × (k < 16) }
+        ensures { result ≡ Ok (R.Raster.at self.now.slab.now (self.now.window.row + row) (self.now.window.word + 2 * k), R.Raster.at self.now.slab.now (self.now.window.row + row) (self.now.window.word + 2 * k + 1)) }
+    {
+        let Window { row: first, word } = self.window;
+        let chroma = self.slab.look(first + row, word + 2 * k)?;
+        let luma = self.slab.look(first + row, word + 2 * k + 1)?;
+        Ok((chroma, luma))
+    }
 }

@@ -1,8 +1,9 @@
 -- Runs of the register, and the bits of words.
 use Rattle.std.proofs.Common.{◌≡◌, ℕ, zero, suc, ◌+◌, ◌*◌, ◌%◌, ◌^◌, ◌<◌, ◌≤◌, Bool, true, false, leb, List, [], ◌∷◌, ◌++◌, length, get_or, drop, sym, refl, ap, ◌∙◌, append_assoc, arith}
 use lib.Bits.{xor_lt}
-use Rattle.std.proofs.lemmas.List.{at_drop_more, at_drop_all}
-use Rattle.crc.specs.Register.{polynomial, unlike, shifted, step, run, start, check_of, word_bits, bits_of}
+use Rattle.std.proofs.lemmas.List.{drop_more}
+use Rattle.std.proofs.Math.ListN.{drop_of_length-le}
+use Rattle.crc.specs.Register.{polynomial, unlike, shifted, step, run, start, check_of, word_bits, bits_of, bits_more}
 
 pub run_none : (r : ℕ) → run r [] ≡ r
 unfolding run
@@ -16,14 +17,6 @@ pub run-++ : (r : ℕ) (xs ys : List Bool) → run r (xs ++ ys) ≡ run (run r x
 unfolding run
 run-++ r [] ys = refl
 run-++ r (b ∷ xs) ys = run-++ (step r b) xs ys
-
-pub bits_none : (n : ℕ) → bits_of n [] ≡ []
-unfolding bits_of
-bits_none n = refl
-
-pub bits_more : (n w : ℕ) (words : List ℕ) → bits_of n (w ∷ words) ≡ word_bits n w ++ bits_of n words
-unfolding bits_of
-bits_more n w words = refl
 
 pub bits-++ : (n : ℕ) (xs ys : List ℕ) → bits_of n (xs ++ ys) ≡ bits_of n xs ++ bits_of n ys
 unfolding bits_of
@@ -43,15 +36,16 @@ words_none n r = refl
 pub words_more : (n r w : ℕ) (words : List ℕ) → run r (bits_of n (w ∷ words)) ≡ run (run r (word_bits n w)) (bits_of n words)
 words_more n r w words = rw (bits_more n w words) (run-++ r (word_bits n w) (bits_of n words))
 
--- and in a loop over them: one word on, and at the end
-pub drop_more_run : (n r s : ℕ) (words : List ℕ) (i : ℕ) → i < length words → s ≡ run r (word_bits n (get_or words i 0)) → run s (bits_of n (drop (i + 1) words)) ≡ run r (bits_of n (drop i words))
-drop_more_run n r s words i h e =
-    ap (λ (x : ℕ). run x (bits_of n (drop (i + 1) words))) e
-    ∙ sym (words_more n r (get_or words i 0) (drop (i + 1) words))
-    ∙ sym (at_drop_more (λ (l : List ℕ). run r (bits_of n l)) words i 0 h)
+-- In a loop over symbols: one symbol on, and at the end. The two facts are the laws of a symbol.
+module _ {A : Type 0} (bits : A → List Bool) (all : List A → List Bool) where
+  pub one_on : ((x : A) (xs : List A) → all (x ∷ xs) ≡ bits x ++ all xs) → (r s : ℕ) (xs : List A) (i : ℕ) (x : A) → i < length xs → x ≡ get_or xs i x → s ≡ run r (bits x) → run s (all (drop (i + 1) xs)) ≡ run r (all (drop i xs))
+  one_on more r s xs i x h e f =
+      ap (λ (y : ℕ). run y (all (drop (i + 1) xs))) f
+      ∙ sym (run-++ r (bits x) (all (drop (i + 1) xs)))
+      ∙ ap (run r) (sym (more x (drop (i + 1) xs)) ∙ ap (λ y. all (y ∷ drop (i + 1) xs)) e ∙ ap all (sym (drop_more xs i x h)))
 
-pub drop_all_run : (n r : ℕ) (words : List ℕ) (i : ℕ) → length words ≤ i → r ≡ run r (bits_of n (drop i words))
-drop_all_run n r words i h = sym (words_none n r) ∙ sym (at_drop_all (λ (l : List ℕ). run r (bits_of n l)) words i h)
+  pub at_the_end : all [] ≡ [] → (r : ℕ) (xs : List A) (i : ℕ) → length xs ≤ i → r ≡ run r (all (drop i xs))
+  at_the_end none r xs i h = sym (run_none r) ∙ ap (run r) (sym none ∙ ap all (sym (drop_of_length-le xs h)))
 
 -- the register stays within its 32 bits
 pub shifted_below : (f : Bool) (r : ℕ) → shifted f r < 2 ^ 32

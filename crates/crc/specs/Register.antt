@@ -1,5 +1,5 @@
 -- The check register of ISO/IEC 13818-1, annex A: CRC-32/MPEG-2. It has 32 bits. A message is a list of bits, which enter one after the other.
-use Rattle.std.specs.Prelude.{ℕ, zero, suc, ◌-◌, ◌*◌, ◌/◌, ◌%◌, ◌^◌, Bool, true, false, not, List, [], ◌∷◌, ◌++◌, ◌==◌, bit_xor, nat_le}
+use Rattle.std.specs.Prelude.{◌≡◌, ℕ, zero, suc, ◌-◌, ◌*◌, ◌/◌, ◌%◌, ◌^◌, Bool, true, false, not, List, [], ◌∷◌, ◌++◌, ◌==◌, bit_xor, nat_le, refl}
 
 -- x ^ 32 is left out, as the register has no bit for it
 abbrev pub polynomial : ℕ
@@ -40,6 +40,14 @@ word_bits (suc n) w = (w / 2 ^ n % 2 == 1) ∷ word_bits n w
 unfoldable pub bits_of : ℕ → List ℕ → List Bool
 bits_of n [] = []
 bits_of n (w ∷ words) = word_bits n w ++ bits_of n words
+
+pub bits_none : (n : ℕ) → bits_of n [] ≡ []
+unfolding bits_of
+bits_none n = refl
+
+pub bits_more : (n w : ℕ) (words : List ℕ) → bits_of n (w ∷ words) ≡ word_bits n w ++ bits_of n words
+unfolding bits_of
+bits_more n w words = refl
 
 abbrev pub row_bits : List ℕ → List Bool
 row_bits rows = bits_of 16 rows

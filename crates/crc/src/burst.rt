@@ -3,7 +3,7 @@ ghost use Rattle.std.specs.Prelude.{◌≡◌, true, Decides};
 ghost use Rattle.crc.specs.Register.{check_of, row_bits};
 ghost use Rattle.crc.specs.Burst.{spelled_at, CheckFits, check_fits, Alone, with_check, BurstNeverPasses, EndsAtZero, CheckedFits};
 
-use crate::register::of_rows;
+use crate::register::check;
 
 // Whether the check of a block fits: exactly if the register over all 16 rows ends at 0. If it does, then no other block
 // fits that differs from this one within two neighbouring rows.
@@ -35,10 +35,10 @@ pub fn burst_never_passes()
 fn is_fitting(rows: &[u16; 16]) -> bool
     ensures { result ≡ check_fits rows.now }
 {
-    spelled_check(rows) == of_rows(&rows[0..14])
+    spelled_check(rows) == check(&rows[0..14])
 }
 
-// The number that the last two rows spell.
+// The number that the last two rows spell. The library puts numbers together from bytes alone, not from rows.
 fn spelled_check(rows: &[u16; 16]) -> u32
     ensures { result ≡ spelled_at rows.now 14 }
 {
@@ -48,7 +48,7 @@ fn spelled_check(rows: &[u16; 16]) -> u32
 fn checked(rows: &[u16; 14]) -> [u16; 16]
     ensures { result ≡ with_check rows.now }
 {
-    let check = of_rows(rows);
+    let check = check(rows);
     let mut block = [0; 16];
     block[14] = (check / 65536) as u16;
     block[15] = (check % 65536) as u16;

@@ -3,7 +3,9 @@
 
 mod burst;
 mod register;
+mod symbol;
 mod table;
 
 pub use burst::{burst_never_passes, fits, with_check};
-pub use register::{known_check, of_bytes, of_rows};
+pub use register::{check, known_check};
+pub use symbol::Symbol;

@@ -1,30 +1,19 @@
-// The check over rows and over bytes.
+// The check of a message.
 ghost use Rattle.std.specs.Prelude.{◌≡◌, codes};
-ghost use Rattle.crc.specs.Register.{check_of, row_bits, byte_bits};
+ghost use Rattle.crc.specs.Register.{check_of, byte_bits};
 
-use crate::table::{fed_byte, fed_row};
+use crate::Symbol;
 
 // The register before the first bit.
 const START: u32 = 0xFFFF_FFFF;
 
-// The check over rows of 16 bits.
-pub fn of_rows(rows: &[u16]) -> u32
-    ensures { result ≡ check_of (row_bits rows.now) }
+// The check of a message.
+pub fn check<S: Symbol>(message: &[S]) -> u32
+    ensures { result ≡ check_of (S.all_bits message.now) }
 {
     let mut register = START;
-    for row in rows {
-        register = fed_row(register, *row);
-    }
-    register
-}
-
-// The check over bytes.
-pub fn of_bytes(bytes: &[u8]) -> u32
-    ensures { result ≡ check_of (byte_bits bytes.now) }
-{
-    let mut register = START;
-    for byte in bytes {
-        register = fed_byte(register, *byte);
+    for symbol in message {
+        register = symbol.enter(register);
     }
     register
 }
@@ -40,5 +29,5 @@ pub fn known_check() -> u32
 fn of_digits() -> u32
     ensures { result ≡ check_of (byte_bits (codes "123456789")) }
 {
-    of_bytes(b"123456789")
+    check(b"123456789")
 }

@@ -6,7 +6,8 @@ ghost use Rattle.crc.specs.Table.{fed_back, feedbacks, fed_byte, fed_row};
 pub(crate) fn fed_row(register: u32, row: u16) -> u32
     ensures { result ≡ fed_row register row }
 {
-    fed_byte(fed_byte(register, (row >> 8) as u8), (row % 256) as u8)
+    let [high, low] = row.to_be_bytes();
+    fed_byte(fed_byte(register, high), low)
 }
 
 // The register after a byte.

@@ -13,7 +13,7 @@ use Rattle.record.specs.declared.record.Block.{Block}
 use Rattle.slots.specs.declared.slot.Slot.{Slot}
 use Rattle.slots.specs.declared.slot.Slot.TheVariants.{Empty, Held}
 use Rattle.slots.specs.declared.slot.State.{State}
-use Rattle.slots.specs.Exact.{numbers_exact}
+use Rattle.std.proofs.lemmas.Bool.Decides.{Decides-eqb}
 use Rattle.slots.specs.Slots.{state_of, place_of, offered, offered_at, cleared, lowest_in}
 use Rattle.slots.proofs.Offering.{settled as offer-settles}
 use Rattle.slots.proofs.Searching.{lowest_is}
@@ -57,8 +57,8 @@ abbrev Fine : ℕ → Slot ℕ → Type 0
 Fine v x = (x ≡ Empty) ⊎ (x ≡ Held v)
 
 offered_fine : (x : Slot ℕ) (v : ℕ) → Fine v x → offered eqb x v ≡ Held v
-offered_fine x v (inl e) = (offer-settles eqb numbers_exact x v).filled e
-offered_fine x v (inr e) = (offer-settles eqb numbers_exact x v).equal e
+offered_fine x v (inl e) = (offer-settles eqb Decides-eqb x v).filled e
+offered_fine x v (inr e) = (offer-settles eqb Decides-eqb x v).equal e
 
 -- a table that holds an image's elements delivers the image
 module _ (image : Image) (slots : List (Slot ℕ)) (long : length slots ≡ 135) (holds : (i : ℕ) → i < 135 → get_or slots i Empty ≡ Held (element_of image.bytes i)) where

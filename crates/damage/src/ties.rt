@@ -1,11 +1,12 @@
 // The calls as steps of a run. Each function makes one call, and its contract says that what the call promises, of any raster, is the step
-// of every chain that it could be made in.
-ghost use Rattle.std.specs.Prelude.{◌≡◌, length};
+// of every chain that it could be made in. The call itself stands alone in a function below, which the check proves with no answer of ours,
+// so that a wrong call is refused there.
+ghost use Rattle.std.specs.Prelude.{◌≡◌, ℕ, ◌<◌, length};
 ghost use Rattle.block.specs.Slab.{done};
 ghost use Rattle.format.specs.Formats.{next_first};
 ghost use Rattle.image.specs.Elements.{elements_of, joined};
 ghost use Rattle.image.specs.Image.{sealing, overwritten, done as doneImage};
-ghost use Rattle.inserter.specs.Place.{placing};
+ghost use Rattle.inserter.specs.Place.{placing, placed_at};
 ghost use Rattle.extractor.specs.Gather.{starting, gathered};
 ghost use Rattle.extractor.specs.Delivery.{delivering};
 ghost use Rattle.damage.specs.Ties.{grid_of, StepsMakeARun, IsImage, PlaceStep, GatherStep, StartStep, DeliverStep, SealStep, OpenStep, CloseStep, Places, Gathers, Seals};
@@ -64,6 +65,22 @@ fn place_on<R: Raster>(
 ) -> Result<(), Fault>
     ensures kept { R.Raster.kept slab.old slab.new }
     ensures places { Places picture.now.format picture.now.first stripe column image.now.bytes «record».now (grid_of R.Raster.rows R.Raster.words R.Raster.at slab.old) (grid_of R.Raster.rows R.Raster.words R.Raster.at slab.new) result }
+{
+    placed_on(picture, stripe, column, slab, image, record)
+}
+
+// The call alone: its answer, what is kept, and each word.
+fn placed_on<R: Raster>(
+    picture: &Picture<'_>,
+    stripe: usize,
+    column: usize,
+    slab: &mut R,
+    image: &SealedImage,
+    record: &Record,
+) -> Result<(), Fault>
+    ensures answer { result ≡ done (placing picture.now.format picture.now.first stripe column (R.Raster.rows slab.old) (R.Raster.words slab.old) image.now.bytes «record».now) }
+    ensures kept { R.Raster.kept slab.old slab.new }
+    ensures after { (i j : ℕ) → i < R.Raster.rows slab.old → j < R.Raster.words slab.old → R.Raster.at slab.new i j ≡ placed_at (placing picture.now.format picture.now.first stripe column (R.Raster.rows slab.old) (R.Raster.words slab.old) image.now.bytes «record».now) (R.Raster.at slab.old) column i j }
 {
     picture.place(stripe, column, slab, image, record)
 }

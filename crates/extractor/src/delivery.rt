@@ -51,8 +51,9 @@ fn elements_in(table: &Table<'_, u32>) -> Result<[u32; 135], Fault>
     ensures { result ≡ Ok (map held_in table.now.slots.now) }
 {
     let mut elements = [0; 135];
-    for i in 0..ELEMENTS {
-        elements[i] = held_in(table.slot(i)?);
+    // A table answers one slot at a time, and may refuse.
+    for (i, element) in elements.iter_mut().enumerate() {
+        *element = held_in(table.slot(i)?);
     }
     Ok(elements)
 }

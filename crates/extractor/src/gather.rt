@@ -9,15 +9,13 @@ ghost use Rattle.extractor.specs.Gather.{settled, starting, admitted, then_block
 use crate::Gathering;
 use block::read_block;
 use fault::Fault;
-use format::{ELEMENTS, Format};
+use format::{ELEMENTS, Format, first_reference};
 use raster::{Extent, Raster};
 use record::{Block, Record};
 use slots::Table;
 
-// The largest reference: references count modulo 65521.
-const LAST_REFERENCE: u32 = 65520;
-
-// Begins to gather a picture of a format from a first reference, with a cleared table of elements.
+// Begins to gather a picture of a format from a first reference, with a cleared table of elements. Both come as numbers, since to refuse
+// those that are neither (3 and 4) is part of the call.
 pub fn start(number: u32, first: u32, table: &mut Table<'_, u32>) -> Result<Gathering, Fault>
     ensures answer { result ≡ starting number first (length table.old.slots.now) }
     ensures table { table.new.slots.now ≡ (if is_ok result then cleared table.old.slots.now else table.old.slots.now) }
@@ -32,17 +30,12 @@ pub fn start(number: u32, first: u32, table: &mut Table<'_, u32>) -> Result<Gath
 fn begun(number: u32, first: u32, slots: usize) -> Result<Gathering, Fault>
     ensures { result ≡ starting number first slots }
 {
-    let format = Format::of(number)?;
-    if first > LAST_REFERENCE {
-        return Err(Fault::FirstReference);
-    }
+    let format = Format::try_from(number)?;
+    let first = first_reference(first)?;
     if slots != ELEMENTS {
         return Err(Fault::Length);
     }
-    Ok(Gathering {
-        format,
-        first: first as u16,
-    })
+    Ok(Gathering { format, first })
 }
 
 impl Gathering {

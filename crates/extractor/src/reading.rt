@@ -10,7 +10,7 @@ use raster::Raster;
 use record::Block;
 
 // The block that a column carries, in a slab of the format of that number. It accepts exactly the well-formed blocks, and
-// none that differs from a well-formed one within two neighbouring rows only.
+// none that differs from a well-formed one within two neighbouring rows only. That the number may be no format's (3) is part of the call.
 pub fn read<R: Raster>(number: u32, column: usize, slab: &R) -> Result<Block, Fault>
     ensures answer { result ≡ reading number column (R.Raster.rows slab.now) (R.Raster.words slab.now) (R.Raster.at slab.now) }
     ensures accepts { Decides (is_ok result) (Readable number column (R.Raster.rows slab.now) (R.Raster.words slab.now) (R.Raster.at slab.now)) }
@@ -22,7 +22,7 @@ pub fn read<R: Raster>(number: u32, column: usize, slab: &R) -> Result<Block, Fa
 fn read_numbered<R: Raster>(number: u32, column: usize, slab: &R) -> Result<Block, Fault>
     ensures { result ≡ reading number column (R.Raster.rows slab.now) (R.Raster.words slab.now) (R.Raster.at slab.now) }
 {
-    let format = Format::of(number)?;
+    let format = Format::try_from(number)?;
     read_in(format, column, slab)
 }
 

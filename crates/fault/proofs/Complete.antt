@@ -3,13 +3,16 @@ use Rattle.std.proofs.Common.{◌≡◌, ℕ, zero, suc, ◌<◌, Bool, true, �
 use Rattle.std.proofs.lemmas.Bool.Decides.{Decides-below_and, Decides-eqb, Decides-ltb}
 use Rattle.fault.specs.declared.Fault.{Fault}
 use Rattle.fault.specs.declared.Fault.TheVariants.{Size, Outside, Format, FirstReference, Length, SlotNumber, SlabExtent, NotInFormat, ComponentWidth, Sync, BlockCheck, ReservedBit, ReferenceRange, RecordRule, FrameOrField, UnexpectedReference, EmptySlot, DisputedSlot, ImageCheck, MpegStandard, PictureStructure, ChromaFormat, SpareBit}
-use Rattle.fault.specs.Table.{table, line_of, table_numbers, Listed, Used, Apart, Ascending}
+use Rattle.fault.specs.Table.{table, line_of, table_numbers, Listed, Used, Apart, ByNumberAndPlace, Ascending}
 
 pub listed : Listed
 listed f = search rules
 
 pub apart : Apart
 apart f g same_line same_place = search rules
+
+pub told : ByNumberAndPlace
+told f g same_number same_place = search rules
 
 -- a refusal of each line
 abbrev kinds : List Fault

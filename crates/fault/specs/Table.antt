@@ -1,9 +1,9 @@
 -- The refusals: the number and the layer of each, and how many there are.
-use Rattle.std.specs.Prelude.{◌≡◌, ℕ, ◌<◌, List, [], ◌∷◌, map, length, slice_index, slice_index_or}
-use Rattle.fault.specs.declared.Layer.{Layer}
-use Rattle.fault.specs.declared.Layer.TheVariants.{Raster, Block, Picture}
-use Rattle.fault.specs.declared.Place.{Place}
-use Rattle.fault.specs.declared.Place.TheVariants.{Nowhere, Word, Slot}
+use Rattle.std.specs.Prelude.{◌≡◌, ℕ, ◌<◌, List, [], ◌∷◌, Option, Some, None, map, length, slice_index, slice_index_or}
+use Rattle.fault.specs.declared.place.Layer.{Layer}
+use Rattle.fault.specs.declared.place.Layer.TheVariants.{Raster, Block, Picture}
+use Rattle.fault.specs.declared.place.Place.{Place}
+use Rattle.fault.specs.declared.place.Place.TheVariants.{Word, Slot}
 use Rattle.fault.specs.declared.Fault.{Fault}
 use Rattle.fault.specs.declared.Fault.TheVariants.{Size, Outside, Format, FirstReference, Length, SlotNumber, SlabExtent, NotInFormat, ComponentWidth, Sync, BlockCheck, ReservedBit, ReferenceRange, RecordRule, FrameOrField, UnexpectedReference, EmptySlot, DisputedSlot, ImageCheck, MpegStandard, PictureStructure, ChromaFormat, SpareBit}
 
@@ -75,31 +75,31 @@ number_of f = (slice_index_or table (line_of f) (line 0 Picture)).number
 abbrev pub layer_of : Fault → Layer
 layer_of f = (slice_index_or table (line_of f) (line 0 Picture)).layer
 
--- the place that a refusal names
-abbrev pub place_of : Fault → Place
-place_of Size = Nowhere
-place_of (Outside row word) = Word row word
-place_of Format = Nowhere
-place_of FirstReference = Nowhere
-place_of Length = Nowhere
-place_of SlotNumber = Nowhere
-place_of SlabExtent = Nowhere
-place_of NotInFormat = Nowhere
-place_of ComponentWidth = Nowhere
-place_of Sync = Nowhere
-place_of BlockCheck = Nowhere
-place_of ReservedBit = Nowhere
-place_of ReferenceRange = Nowhere
-place_of RecordRule = Nowhere
-place_of FrameOrField = Nowhere
-place_of UnexpectedReference = Nowhere
-place_of (EmptySlot slot) = Slot slot
-place_of (DisputedSlot slot) = Slot slot
-place_of ImageCheck = Nowhere
-place_of MpegStandard = Nowhere
-place_of PictureStructure = Nowhere
-place_of ChromaFormat = Nowhere
-place_of SpareBit = Nowhere
+-- the place that a refusal names, if it names one
+abbrev pub place_of : Fault → Option Place
+place_of Size = None
+place_of (Outside row word) = Some (Word row word)
+place_of Format = None
+place_of FirstReference = None
+place_of Length = None
+place_of SlotNumber = None
+place_of SlabExtent = None
+place_of NotInFormat = None
+place_of ComponentWidth = None
+place_of Sync = None
+place_of BlockCheck = None
+place_of ReservedBit = None
+place_of ReferenceRange = None
+place_of RecordRule = None
+place_of FrameOrField = None
+place_of UnexpectedReference = None
+place_of (EmptySlot slot) = Some (Slot slot)
+place_of (DisputedSlot slot) = Some (Slot slot)
+place_of ImageCheck = None
+place_of MpegStandard = None
+place_of PictureStructure = None
+place_of ChromaFormat = None
+place_of SpareBit = None
 
 -- the table's column of numbers
 abbrev pub table_numbers : List ℕ
@@ -116,6 +116,10 @@ Used = (i : ℕ) → i < length table → (f : Fault) × (line_of f ≡ i)
 -- refusals on one line are of one kind: they differ at most in the place
 abbrev pub Apart : Type 0
 Apart = (f g : Fault) → line_of f ≡ line_of g → place_of f ≡ place_of g → f ≡ g
+
+-- refusals of one number and one place are one refusal
+abbrev pub ByNumberAndPlace : Type 0
+ByNumberAndPlace = (f g : Fault) → number_of f ≡ number_of g → place_of f ≡ place_of g → f ≡ g
 
 -- each number is above those of all earlier lines, so none stands twice
 abbrev pub Ascending : Type 0

@@ -1,9 +1,9 @@
 -- What is printed of a layer, a place and a refusal, byte for byte.
-use Rattle.std.specs.Prelude.{ℕ, List, ◌++◌, codes, decimal}
-use Rattle.fault.specs.declared.Layer.{Layer}
-use Rattle.fault.specs.declared.Layer.TheVariants.{Raster, Block, Picture}
-use Rattle.fault.specs.declared.Place.{Place}
-use Rattle.fault.specs.declared.Place.TheVariants.{Nowhere, Word, Slot}
+use Rattle.std.specs.Prelude.{ℕ, List, ◌++◌, Option, Some, None, codes, decimal}
+use Rattle.fault.specs.declared.place.Layer.{Layer}
+use Rattle.fault.specs.declared.place.Layer.TheVariants.{Raster, Block, Picture}
+use Rattle.fault.specs.declared.place.Place.{Place}
+use Rattle.fault.specs.declared.place.Place.TheVariants.{Word, Slot}
 use Rattle.fault.specs.declared.Fault.{Fault}
 use Rattle.fault.specs.declared.Fault.TheVariants.{Size, Outside, Format, FirstReference, Length, SlotNumber, SlabExtent, NotInFormat, ComponentWidth, Sync, BlockCheck, ReservedBit, ReferenceRange, RecordRule, FrameOrField, UnexpectedReference, EmptySlot, DisputedSlot, ImageCheck, MpegStandard, PictureStructure, ChromaFormat, SpareBit}
 use Rattle.fault.specs.Table.{number_of, layer_of, place_of}
@@ -14,7 +14,6 @@ layer_text Block = codes "block"
 layer_text Picture = codes "picture"
 
 abbrev pub place_text : Place → List ℕ
-place_text Nowhere = codes "nowhere"
 place_text (Word row word) = codes "row " ++ (decimal row ++ (codes ", word " ++ decimal word))
 place_text (Slot slot) = codes "slot " ++ decimal slot
 
@@ -44,11 +43,10 @@ reason_of PictureStructure = codes "picture_structure is 0"
 reason_of ChromaFormat = codes "chroma_format is 0 or 3"
 reason_of SpareBit = codes "a spare bit is 1"
 
--- a place before what is wrong with it
-abbrev located : Place → List ℕ → List ℕ
-located Nowhere reason = reason
-located (Word row word) reason = place_text (Word row word) ++ (codes " " ++ reason)
-located (Slot slot) reason = place_text (Slot slot) ++ (codes " " ++ reason)
+-- what is wrong, after the place that it is wrong with, if there is one
+abbrev located : Option Place → List ℕ → List ℕ
+located None reason = reason
+located (Some place) reason = place_text place ++ (codes " " ++ reason)
 
 -- number, layer, then where and what: "20 picture: slot 7 is empty"
 abbrev pub fault_text : Fault → List ℕ

@@ -2,29 +2,18 @@
 #![tactic(auto)]
 
 ghost use Rattle.std.specs.Prelude.{◌≡◌};
-ghost use Rattle.fault.specs.Table.{number_of, layer_of, place_of, table_numbers, Listed, Used, Apart, Ascending};
+ghost use Rattle.std.proofs.Common.{rules};
+ghost use Rattle.fault.specs.Table.{number_of, layer_of, place_of, table_numbers, Listed, Used, Apart, ByNumberAndPlace, Ascending};
 
-mod equality;
+use exact::Exact;
+
+mod place;
 mod printing;
 
-// The layer that a refusal belongs to.
-#[derive(Clone, Copy, Debug, PartialEq, Eq)]
-pub enum Layer {
-    Raster,
-    Block,
-    Picture,
-}
-
-// Where a refusal applies: a word of the topmost raster, a slot of a table, or nowhere in particular.
-#[derive(Clone, Copy, Debug, PartialEq, Eq)]
-pub enum Place {
-    Nowhere,
-    Word { row: usize, word: usize },
-    Slot(usize),
-}
+pub use place::{Layer, Place};
 
 // Why a call refused. Each case has one number and one layer (specs/Table.antt), and holds its place if it has one.
-#[derive(Clone, Copy, Debug)]
+#[derive(Clone, Copy, Debug, PartialEq, Eq)]
 pub enum Fault {
     Size,
     Outside { row: usize, word: usize },
@@ -85,26 +74,50 @@ impl Fault {
     pub fn layer(&self) -> Layer
         ensures { result ≡ layer_of self.now }
     {
-        match self.number() {
-            1..=2 => Layer::Raster,
-            10..=17 => Layer::Block,
-            _ => Layer::Picture,
+        match self {
+            Fault::Size | Fault::Outside { .. } => Layer::Raster,
+            Fault::SlabExtent
+            | Fault::NotInFormat
+            | Fault::ComponentWidth
+            | Fault::Sync
+            | Fault::BlockCheck
+            | Fault::ReservedBit
+            | Fault::ReferenceRange
+            | Fault::RecordRule => Layer::Block,
+            Fault::Format
+            | Fault::FirstReference
+            | Fault::Length
+            | Fault::SlotNumber
+            | Fault::FrameOrField
+            | Fault::UnexpectedReference
+            | Fault::EmptySlot(_)
+            | Fault::DisputedSlot(_)
+            | Fault::ImageCheck
+            | Fault::MpegStandard
+            | Fault::PictureStructure
+            | Fault::ChromaFormat
+            | Fault::SpareBit => Layer::Picture,
         }
     }
 
-    pub fn place(&self) -> Place
+    // The place that it names, if it names one.
+    pub fn place(&self) -> Option<Place>
         ensures { result ≡ place_of self.now }
     {
         match self {
-            Fault::Outside { row, word } => Place::Word {
+            Fault::Outside { row, word } => Some(Place::Word {
                 row: *row,
                 word: *word,
-            },
-            Fault::EmptySlot(slot) => Place::Slot(*slot),
-            Fault::DisputedSlot(slot) => Place::Slot(*slot),
-            _ => Place::Nowhere,
+            }),
+            Fault::EmptySlot(slot) | Fault::DisputedSlot(slot) => Some(Place::Slot(*slot)),
+            _ => None,
         }
     }
+}
+
+// Refusals are equal exactly if they have the same number and the same place.
+impl Exact for Fault {
+    ghost exact = { λ x y. Prim.search rules };
 }
 
 // That the table has each refusal once: nothing runs, callers learn it.
@@ -112,6 +125,7 @@ fn table_is_whole()
     ensures listed { Listed }
     ensures used { Used }
     ensures apart { Apart }
+    ensures told { ByNumberAndPlace }
     ensures ascending { Ascending }
 {}
 
@@ -121,6 +135,7 @@ pub fn numbers() -> [u8; 23]
     ensures listed { Listed }
     ensures used { Used }
     ensures apart { Apart }
+    ensures told { ByNumberAndPlace }
     ensures ascending { Ascending }
 {
     table_is_whole();

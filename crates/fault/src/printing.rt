@@ -23,7 +23,6 @@ impl fmt::Display for Place {
 
     fn fmt<W: fmt::Write>(&self, f: &mut fmt::Formatter<W>) -> fmt::Result {
         match self {
-            Place::Nowhere => write!(f, "nowhere"),
             Place::Word { row, word } => write!(f, "row {row}, word {word}"),
             Place::Slot(slot) => write!(f, "slot {slot}"),
         }
@@ -69,8 +68,8 @@ impl fmt::Display for Fault {
         let layer = self.layer();
         let reason = reason(self);
         match self.place() {
-            Place::Nowhere => write!(f, "{number} {layer}: {reason}"),
-            place => write!(f, "{number} {layer}: {place} {reason}"),
+            None => write!(f, "{number} {layer}: {reason}"),
+            Some(place) => write!(f, "{number} {layer}: {place} {reason}"),
         }
     }
 }

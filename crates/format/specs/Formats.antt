@@ -1,19 +1,11 @@
 -- The picture formats: their table, and what is counted from it. A macroblock is named by its stripe and its column, both from 0.
 use Rattle.std.specs.Prelude.{◌≡◌, ℕ, ◌+◌, ◌*◌, ◌/◌, ◌%◌, ◌<◌, Bool, true, false, cond, ◌&&◌, List, [], ◌∷◌, length, Some, None, Ok, Err, Option, Result, ◌==◌, nat_lt, slice_index_or}
 use Rattle.fault.specs.declared.Fault.{Fault}
-use Rattle.fault.specs.declared.Fault.TheVariants.{Format as NoFormat, NotInFormat}
+use Rattle.fault.specs.declared.Fault.TheVariants.{Format as NoFormat, FirstReference, NotInFormat}
 use Rattle.raster.specs.declared.extent.Extent.{Extent}
+use Rattle.format.specs.declared.table.Line.{Line}
 use Rattle.format.specs.declared.table.Format.{Format}
 use Rattle.format.specs.declared.table.Format.TheVariants.{Frame1080, Field1080, Frame720, Bench}
-
--- A line of the table: the format's number, its columns and stripes of 16 × 16 luma samples, how many macroblocks
--- carry an element at the least, and whether its pictures are frames (else they are fields).
-pub record Line : Type 0 where
-  pub number : ℕ
-  pub columns : ℕ
-  pub stripes : ℕ
-  pub carriers : ℕ
-  pub frame : Bool
 
 abbrev line : ℕ → ℕ → ℕ → ℕ → Bool → Line
 line n c s k f = record { number = n; columns = c; stripes = s; carriers = k; frame = f }
@@ -32,23 +24,24 @@ line_of Field1080 = 1
 line_of Frame720 = 2
 line_of Bench = 3
 
-abbrev shape : Format → Line
-shape f = slice_index_or table (line_of f) (line 0 0 0 0 false)
+-- that line
+abbrev pub line_of_table : Format → Line
+line_of_table f = slice_index_or table (line_of f) (line 0 0 0 0 false)
 
 abbrev pub number_of : Format → ℕ
-number_of f = (shape f).number
+number_of f = (line_of_table f).number
 
 abbrev pub columns_of : Format → ℕ
-columns_of f = (shape f).columns
+columns_of f = (line_of_table f).columns
 
 abbrev pub stripes_of : Format → ℕ
-stripes_of f = (shape f).stripes
+stripes_of f = (line_of_table f).stripes
 
 abbrev pub carriers_of : Format → ℕ
-carriers_of f = (shape f).carriers
+carriers_of f = (line_of_table f).carriers
 
 abbrev pub frame_of : Format → Bool
-frame_of f = (shape f).frame
+frame_of f = (line_of_table f).frame
 
 -- in the order of the table
 abbrev pub formats : List Format
@@ -98,6 +91,10 @@ position_of f stripe column = stripe * columns_of f + column
 -- references go from 0 to 65520, and on from 0 again
 abbrev pub reference_count : ℕ
 reference_count = 65521
+
+-- the first reference of a number, and refusal 4 above 65520
+abbrev pub first_of : ℕ → Result ℕ Fault
+first_of n = cond (nat_lt 65520 n) (Err FirstReference) (Ok n)
 
 -- the reference of a macroblock, in a picture whose macroblock at position 0 has the reference `first`
 abbrev pub reference_of : Format → ℕ → ℕ → ℕ → ℕ

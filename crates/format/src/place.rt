@@ -1,6 +1,6 @@
 // Where a macroblock stands in a picture, its reference, and the element that it carries.
-ghost use Rattle.std.specs.Prelude.{◌≡◌, ◌*◌, ◌%◌, ◌^◌, ◌<◌, ◌≤◌, true, IfOk};
-ghost use Rattle.format.specs.Formats.{in_format, within, macroblocks_of, position_of, reference_of, next_first, index_of};
+ghost use Rattle.std.specs.Prelude.{◌≡◌, ◌*◌, ◌%◌, ◌^◌, ◌<◌, ◌≤◌, true, IfOk, OnOk};
+ghost use Rattle.format.specs.Formats.{in_format, within, macroblocks_of, position_of, reference_of, next_first, index_of, first_of};
 
 use crate::Format;
 use fault::Fault;
@@ -10,6 +10,19 @@ pub const ELEMENTS: usize = 135;
 
 // References go from 0 to 65520, and on from 0 again.
 const REFERENCES: usize = 65521;
+
+const LAST_REFERENCE: u32 = 65520;
+
+// The first reference of a picture, of that number. Refuses one above 65520.
+pub fn first_reference(number: u32) -> Result<u16, Fault>
+    ensures answer { result ≡ first_of number }
+    ensures small { IfOk result (λ first. first ≤ 65520) }
+{
+    if number > LAST_REFERENCE {
+        return Err(Fault::FirstReference);
+    }
+    Ok(number as u16)
+}
 
 impl Format {
     // How many macroblocks a picture has.
@@ -28,16 +41,25 @@ impl Format {
         stripe < self.stripes() && column < self.columns()
     }
 
+    // Refuses a macroblock that is not in the format.
+    fn check(self, stripe: usize, column: usize) -> Result<(), Fault>
+        ensures answer { result ≡ within self stripe column tt }
+        ensures near { OnOk result ((stripe < 68) × (column < 120)) }
+    {
+        if self.holds(stripe, column) {
+            Ok(())
+        } else {
+            Err(Fault::NotInFormat)
+        }
+    }
+
     // The place of a macroblock, counted along the stripes.
     pub fn position(self, stripe: usize, column: usize) -> Result<usize, Fault>
         ensures answer { result ≡ within self stripe column (position_of self stripe column) }
         ensures few { IfOk result (λ p. p < 2 ^ 16) }
     {
-        if self.holds(stripe, column) {
-            Ok(times(stripe, self.columns()) + column)
-        } else {
-            Err(Fault::NotInFormat)
-        }
+        self.check(stripe, column)?;
+        Ok(times(stripe, self.columns()) + column)
     }
 
     // The reference of a macroblock, in a picture that begins at the reference `first`.
@@ -54,11 +76,8 @@ impl Format {
         ensures answer { result ≡ within self stripe column (index_of stripe column) }
         ensures small { IfOk result (λ i. i < 135) }
     {
-        if self.holds(stripe, column) {
-            Ok((stripe % 3 * 45 + column + 27 * (stripe / 3)) % ELEMENTS)
-        } else {
-            Err(Fault::NotInFormat)
-        }
+        self.check(stripe, column)?;
+        Ok((stripe % 3 * 45 + column + 27 * (stripe / 3)) % ELEMENTS)
     }
 
     // The first reference of the picture after one that begins at the reference `first`.

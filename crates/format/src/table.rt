@@ -1,6 +1,6 @@
 // The four formats, and the columns of their table.
 ghost use Rattle.std.specs.Prelude.{◌≡◌, ◌≤◌, Some};
-ghost use Rattle.format.specs.Formats.{number_of, columns_of, stripes_of, carriers_of, frame_of, format_of, accepted, slab_of, is_slab, Listed, Used};
+ghost use Rattle.format.specs.Formats.{line_of_table, number_of, columns_of, stripes_of, carriers_of, frame_of, format_of, accepted, slab_of, is_slab, Listed, Used};
 ghost use Rattle.format.specs.Carriers.{EachCarried, SomeNoMore, LeftOfSets, LeftOfLists};
 
 use crate::laws::{every_element_has_its_carriers, table_is_whole};
@@ -16,9 +16,24 @@ pub enum Format {
     Bench,
 }
 
-impl Format {
-    // The format of a number, 1 to 4.
-    pub fn of(number: u32) -> Result<Format, Fault>
+// A line of the table: the format's number, its columns and stripes of 16 × 16 luma samples, how many macroblocks carry an element at
+// the least, and whether its pictures are frames (else they are fields).
+#[derive(Clone, Copy)]
+struct Line {
+    number: u32,
+    columns: usize,
+    stripes: usize,
+    carriers: usize,
+    frame: bool,
+}
+
+// The format of a number, 1 to 4.
+impl TryFrom<u32> for Format {
+    type Error = Fault;
+
+    ghost try_from_gives = { λ number answer. answer ≡ accepted number };
+
+    fn try_from(number: u32) -> Result<Format, Fault>
         ensures answer { result ≡ accepted number }
         ensures listed { Listed }
         ensures used { Used }
@@ -32,17 +47,49 @@ impl Format {
             _ => Err(Fault::Format),
         }
     }
+}
+
+impl Format {
+    fn line(self) -> Line
+        ensures { result ≡ line_of_table self }
+    {
+        match self {
+            Format::Frame1080 => Line {
+                number: 1,
+                columns: 120,
+                stripes: 68,
+                carriers: 58,
+                frame: true,
+            },
+            Format::Field1080 => Line {
+                number: 2,
+                columns: 120,
+                stripes: 34,
+                carriers: 29,
+                frame: false,
+            },
+            Format::Frame720 => Line {
+                number: 3,
+                columns: 80,
+                stripes: 45,
+                carriers: 24,
+                frame: true,
+            },
+            Format::Bench => Line {
+                number: 4,
+                columns: 45,
+                stripes: 3,
+                carriers: 1,
+                frame: true,
+            },
+        }
+    }
 
     pub fn number(self) -> u32
         ensures number { result ≡ number_of self }
         ensures back { format_of result ≡ Some self }
     {
-        match self {
-            Format::Frame1080 => 1,
-            Format::Field1080 => 2,
-            Format::Frame720 => 3,
-            Format::Bench => 4,
-        }
+        self.line().number
     }
 
     // How many macroblocks a stripe has.
@@ -50,11 +97,7 @@ impl Format {
         ensures columns { result ≡ columns_of self }
         ensures few { result ≤ 120 }
     {
-        match self {
-            Format::Frame1080 | Format::Field1080 => 120,
-            Format::Frame720 => 80,
-            Format::Bench => 45,
-        }
+        self.line().columns
     }
 
     // How many stripes a picture has.
@@ -62,12 +105,7 @@ impl Format {
         ensures stripes { result ≡ stripes_of self }
         ensures few { result ≤ 68 }
     {
-        match self {
-            Format::Frame1080 => 68,
-            Format::Field1080 => 34,
-            Format::Frame720 => 45,
-            Format::Bench => 3,
-        }
+        self.line().stripes
     }
 
     // How many macroblocks carry an element at the least.
@@ -79,22 +117,14 @@ impl Format {
         ensures lists { LeftOfLists }
     {
         every_element_has_its_carriers();
-        match self {
-            Format::Frame1080 => 58,
-            Format::Field1080 => 29,
-            Format::Frame720 => 24,
-            Format::Bench => 1,
-        }
+        self.line().carriers
     }
 
     // Whether its pictures are frames; else they are fields.
     pub fn is_frame(self) -> bool
         ensures { result ≡ frame_of self }
     {
-        match self {
-            Format::Frame1080 | Format::Frame720 | Format::Bench => true,
-            Format::Field1080 => false,
-        }
+        self.line().frame
     }
 
     // The extent of a slab, which holds one stripe.
@@ -111,6 +141,6 @@ impl Format {
     pub fn fits_slab(self, extent: Extent) -> bool
         ensures { result ≡ is_slab self extent.rows extent.words }
     {
-        extent.rows == 16 && extent.words == 32 * self.columns()
+        extent == self.slab()
     }
 }

@@ -46,13 +46,13 @@ module _ (bytes : List ℕ) where
   unfolding value_of parameter_of
   chroma_below = spelled_below bytes 120 2
 
-  spare_bits : value_in bytes Spare ≡ 0 → (i : ℕ) → i < (parameter_of Spare).1 → bit_of bytes ((parameter_of Spare).0 + i) ≡ 0
+  spare_bits : value_in bytes Spare ≡ 0 → (i : ℕ) → i < (parameter_of Spare).width → bit_of bytes ((parameter_of Spare).first_bit + i) ≡ 0
   unfolding value_of
-  spare_bits e = zero_bits bytes (parameter_of Spare).0 (parameter_of Spare).1 e
+  spare_bits e = zero_bits bytes (parameter_of Spare).first_bit (parameter_of Spare).width e
 
-  spare_zero : ((i : ℕ) → i < (parameter_of Spare).1 → bit_of bytes ((parameter_of Spare).0 + i) ≡ 0) → value_in bytes Spare ≡ 0
+  spare_zero : ((i : ℕ) → i < (parameter_of Spare).width → bit_of bytes ((parameter_of Spare).first_bit + i) ≡ 0) → value_in bytes Spare ≡ 0
   unfolding value_of
-  spare_zero h = zero_spelled bytes (parameter_of Spare).0 (parameter_of Spare).1 h
+  spare_zero h = zero_spelled bytes (parameter_of Spare).first_bit (parameter_of Spare).width h
 
   pub fit_if_sealed : Sealed bytes → Fit bytes
   unfolding judged

@@ -7,10 +7,10 @@ use Rattle.image.specs.Table.{table, row_at, row_of, Gapless}
 
 -- where row i ends, and where the next begins
 abbrev end : ℕ → ℕ
-end i = (row_at table i).0 + (row_at table i).1
+end i = (row_at table i).first_bit + (row_at table i).width
 
 abbrev next : ℕ → ℕ
-next i = (row_at table (i + 1)).0
+next i = (row_at table (i + 1)).first_bit
 
 -- the first n rows are each followed by the next, as a test that antt computes
 abbrev joins : ℕ → Bool
@@ -25,7 +25,7 @@ gapless = record {
   ends = refl;
 }
 
-pub inside : (name : Name) → (row_at table (row_of name)).0 + (row_at table (row_of name)).1 ≤ 4320
+pub inside : (name : Name) → (row_at table (row_of name)).first_bit + (row_at table (row_of name)).width ≤ 4320
 inside MpegStandardFlag = lit≤ tt
 inside ChromaFormat = lit≤ tt
 inside PictureStructure = lit≤ tt
@@ -35,7 +35,7 @@ inside RepeatFirstField = lit≤ tt
 inside Spare = lit≤ tt
 inside Check = lit≤ tt
 
-pub narrow : (name : Name) → (row_at table (row_of name)).1 ≤ 41
+pub narrow : (name : Name) → (row_at table (row_of name)).width ≤ 41
 narrow MpegStandardFlag = lit≤ tt
 narrow ChromaFormat = lit≤ tt
 narrow PictureStructure = lit≤ tt

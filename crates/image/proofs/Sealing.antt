@@ -1,7 +1,8 @@
 -- Data with its check is an image whose check fits.
-use Rattle.std.proofs.Common.{◌≡◌, ℕ, ◌+◌, ◌-◌, ◌*◌, ◌/◌, ◌%◌, ◌^◌, ◌<◌, Bool, true, false, not, eqb, List, [], ◌∷◌, ◌++◌, length, get_or, take, set, IfOk, Ok, Err, Result, sym, refl, ap, ◌∙◌, subst, inl, inr, arith, lit≤, eq-eqb}
+use Rattle.std.proofs.Common.{◌≡◌, ℕ, ◌+◌, ◌-◌, ◌*◌, ◌/◌, ◌%◌, ◌^◌, ◌<◌, Bool, true, false, not, eqb, List, [], ◌∷◌, ◌++◌, length, get_or, take, drop, IfOk, Ok, Err, Result, sym, refl, ap, ◌∙◌, subst, ap₂, inl, inr, arith, lit≤, eq-eqb}
 use native.Mathlib.Nat.{div-div-eq-div-mul}
-use Rattle.std.proofs.lemmas.List.{set-append_right, get_or_append_left, get_or-append_right, length-append, take_at}
+use Rattle.std.proofs.lemmas.List.{append-nil, get_or_append_left, get_or-append_right, length-append, take_at, drop_at}
+use borrow.Rule.Slice.PartMut.{put_mid}
 use Rattle.std.proofs.lemmas.Bool.{cases_eq, cases_lt}
 use Rattle.std.proofs.lemmas.Bool.Decides.{nat_tests}
 use Rattle.fault.specs.declared.Fault.{Fault}
@@ -16,9 +17,10 @@ use Rattle.image.specs.Elements.{Bytes}
 use Rattle.image.proofs.Spelled.{spelled_word}
 
 -- four bytes written after 536
-pub four_set : (d : List ℕ) (a b c e : ℕ) → length d ≡ 536 → set (set (set (set (d ++ 0 ∷ 0 ∷ 0 ∷ 0 ∷ []) 536 a) 537 b) 538 c) 539 e ≡ d ++ a ∷ b ∷ c ∷ e ∷ []
-four_set d a b c e h =
-    rw (set-append_right d (0 ∷ 0 ∷ 0 ∷ 0 ∷ []) 536 536 a h (lit≤ tt), set-append_right d (a ∷ 0 ∷ 0 ∷ 0 ∷ []) 536 537 b h (lit≤ tt), set-append_right d (a ∷ b ∷ 0 ∷ 0 ∷ []) 536 538 c h (lit≤ tt), set-append_right d (a ∷ b ∷ c ∷ 0 ∷ []) 536 539 e h (lit≤ tt))
+pub end_put : (d ys : List ℕ) → length d ≡ 536 → put_mid 536 4 (d ++ 0 ∷ 0 ∷ 0 ∷ 0 ∷ []) ys ≡ d ++ ys
+end_put d ys h =
+    let z = 0 ∷ 0 ∷ 0 ∷ 0 ∷ [] in
+    ap₂ (λ t u. t ++ (ys ++ u)) (take_at d z 536 h) (ap (drop 4) (drop_at d z 536 h)) ∙ ap (λ u. d ++ u) (append-nil ys)
 
 -- a number from its lowest byte and the rest
 peel : (n : ℕ) → n / 256 * 256 + n % 256 ≡ n

@@ -58,7 +58,7 @@ pub record Fit (bytes : List ℕ) : Type 0 where
   pub standard : value_in bytes MpegStandardFlag ≡ 0
   pub structure : value_in bytes PictureStructure ≡ 0 → ⊥
   pub chroma : (value_in bytes ChromaFormat ≡ 1) ⊎ (value_in bytes ChromaFormat ≡ 2)
-  pub spare : (i : ℕ) → i < (parameter_of Spare).1 → bit_of bytes ((parameter_of Spare).0 + i) ≡ 0
+  pub spare : (i : ℕ) → i < (parameter_of Spare).width → bit_of bytes ((parameter_of Spare).first_bit + i) ≡ 0
 
 -- the four bytes of a number, the high one first
 abbrev pub word_bytes : ℕ → List ℕ

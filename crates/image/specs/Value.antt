@@ -1,6 +1,6 @@
 -- The bits of an image, and the numbers that they spell.
 use Rattle.std.specs.Prelude.{ℕ, zero, suc, ◌+◌, ◌-◌, ◌*◌, ◌/◌, ◌%◌, ◌^◌, List, slice_index}
-use Rattle.image.specs.Table.{Parameter}
+use Rattle.image.specs.declared.table.Parameter.{Parameter}
 
 -- bit i; bit 0 is the most significant of byte 0
 abbrev pub bit_of : List ℕ → ℕ → ℕ
@@ -13,4 +13,4 @@ spelled bytes first (suc n) = spelled bytes first n * 2 + bit_of bytes (first + 
 
 -- the number that the bits of a parameter spell
 unfoldable pub value_of : List ℕ → Parameter → ℕ
-value_of bytes p = spelled bytes p.0 p.1
+value_of bytes p = spelled bytes p.first_bit p.width

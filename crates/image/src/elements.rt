@@ -19,8 +19,8 @@ fn bytes_of(elements: &[u32; 135]) -> [u8; 540]
     ensures { result ≡ joined elements.now }
 {
     let mut bytes = [0; 540];
-    for k in 0..540 {
-        bytes[k] = byte_of(elements, k);
+    for (k, byte) in bytes.iter_mut().enumerate() {
+        *byte = byte_of(elements, k);
     }
     bytes
 }
@@ -30,7 +30,7 @@ fn byte_of(elements: &[u32; 135], k: usize) -> u8
     requires { k < 540 }
     ensures { result ≡ byte_of elements.now k }
 {
-    ((elements[k / 4] >> (24 - 8 * (k % 4))) % 256) as u8
+    elements[k / 4].to_be_bytes()[k % 4]
 }
 
 // The elements of an image. Joining them gives it back.
@@ -39,8 +39,8 @@ pub(crate) fn elements_of(bytes: &[u8; 540]) -> [u32; 135]
     ensures back { joined result ≡ bytes.now }
 {
     let mut elements = [0; 135];
-    for i in 0..ELEMENTS {
-        elements[i] = element_of(bytes, i);
+    for (i, element) in elements.iter_mut().enumerate() {
+        *element = element_of(bytes, i);
     }
     elements
 }
@@ -58,7 +58,10 @@ fn word(bytes: &[u8; 540], first: usize) -> u32
     requires { first + 3 < 540 }
     ensures { result ≡ ((slice_index bytes.now first * 256 + slice_index bytes.now (first + 1)) * 256 + slice_index bytes.now (first + 2)) * 256 + slice_index bytes.now (first + 3) }
 {
-    let high = u32::from(bytes[first]) * 256 + u32::from(bytes[first + 1]);
-    let low = u32::from(bytes[first + 2]) * 256 + u32::from(bytes[first + 3]);
-    high * 65536 + low
+    u32::from_be_bytes([
+        bytes[first],
+        bytes[first + 1],
+        bytes[first + 2],
+        bytes[first + 3],
+    ])
 }

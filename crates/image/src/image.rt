@@ -1,13 +1,7 @@
 // Sealed images: their check fits, and they pass refusals 23 to 26.
-ghost use Rattle.std.specs.Prelude.{◌≡◌, ◌==◌};
-ghost use Rattle.std.specs.Bool.{Decides};
+ghost use Rattle.std.specs.Prelude.{◌≡◌};
 ghost use Rattle.image.specs.Image.{done, overwritten, judged, Sealed, sealing, receiving, blank_image, Blank, Samples, is_frame, is422, top_field_first_of, repeat_first_field_of, q_scale_type_of};
 ghost use Rattle.image.specs.Elements.{element_at, elements_of, joined};
-ghost use Rattle.std.specs.Cmp as Keys;
-ghost use Rattle.std.specs.Cmp.Lexicographic.{pointwise};
-ghost use Rattle.std.specs.Cmp.Rules.{comparing};
-ghost use Rattle.std.specs.Ordering.{on};
-ghost use Rattle.std.proofs.Common.{rules};
 
 use crate::elements::{ELEMENTS, element_of, elements_of};
 use crate::judge::{blank_image, check_image, sealed};
@@ -16,7 +10,7 @@ use crate::value::value;
 use fault::Fault;
 
 // Nothing but seal and receive writes one, and only on acceptance.
-#[derive(Clone, Copy)]
+#[derive(Clone, Copy, PartialEq, Eq)]
 pub struct SealedImage {
     bytes: [u8; 540],
     ghost fit: { Sealed bytes },
@@ -111,29 +105,4 @@ impl SealedImage {
     {
         value(self.bytes(), Name::QScaleType) == 1
     }
-}
-
-fn same_bytes(a: &[u8; 540], b: &[u8; 540]) -> bool
-    ensures computed { result ≡ pointwise ◌==◌ a.now b.now }
-    ensures exact { Decides result (a.now ≡ b.now) }
-{
-    a == b
-}
-
-// Images are equal if their bytes are.
-impl PartialEq for SealedImage {
-    ghost eq = { on (λ image. image.bytes) (pointwise ◌==◌) };
-
-    ghost laws = { Keys.partial_equiv_from_equiv (Prim.search (comparing, rules)) };
-
-    fn eq(&self, other: &SealedImage) -> bool
-        ensures computed { result ≡ pointwise ◌==◌ self.now.bytes other.now.bytes }
-        ensures exact { Decides result (self.now.bytes ≡ other.now.bytes) }
-    {
-        same_bytes(self.bytes(), other.bytes())
-    }
-}
-
-impl Eq for SealedImage {
-    ghost laws = { Prim.search (comparing, rules) };
 }

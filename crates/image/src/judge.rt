@@ -5,7 +5,6 @@ ghost use Rattle.image.specs.Image.{refuse, check_fits, lawful, judged, Sealed, 
 
 use crate::table::Name;
 use crate::value::value;
-use crc::of_bytes;
 use fault::Fault;
 
 // The bytes before the check.
@@ -73,7 +72,7 @@ fn check_fields(bytes: &[u8; 540]) -> Result<(), Fault>
 fn check_fits(bytes: &[u8; 540]) -> bool
     ensures { result ≡ check_fits bytes.now }
 {
-    value(bytes, Name::Check) == u64::from(of_bytes(&bytes[0..DATA]))
+    value(bytes, Name::Check) == u64::from(crc::check(&bytes[..DATA]))
 }
 
 // Data with its check after it.
@@ -81,13 +80,9 @@ pub(crate) fn with_check(data: &[u8]) -> [u8; 540]
     requires { length «data».now ≡ 536 }
     ensures { result ≡ with_check «data».now }
 {
-    let check = of_bytes(data).to_be_bytes();
     let mut bytes = [0; 540];
-    bytes[0..DATA].copy_from_slice(data);
-    bytes[536] = check[0];
-    bytes[537] = check[1];
-    bytes[538] = check[2];
-    bytes[539] = check[3];
+    bytes[..DATA].copy_from_slice(data);
+    bytes[DATA..].copy_from_slice(&crc::check(data).to_be_bytes());
     bytes
 }
 

@@ -2,6 +2,7 @@
 #![tactic(auto)]
 
 mod elements;
+mod equality;
 mod image;
 mod judge;
 mod table;
@@ -10,4 +11,4 @@ mod value;
 pub use elements::join;
 pub use image::SealedImage;
 pub use judge::check_image;
-pub use table::parameters;
+pub use table::{Category, Parameter, parameters};

@@ -9,8 +9,12 @@ use crate::table::Name;
 pub(crate) fn value(bytes: &[u8; 540], name: Name) -> u64
     ensures { result ≡ value_of bytes.now (parameter_of name) }
 {
-    let (first_bit, width, _) = name.parameter();
-    spelled(bytes, usize::from(first_bit), usize::from(width))
+    let parameter = name.parameter();
+    spelled(
+        bytes,
+        usize::from(parameter.first_bit),
+        usize::from(parameter.width),
+    )
 }
 
 // The number that so many bits spell, the most significant first.

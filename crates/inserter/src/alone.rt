@@ -22,8 +22,6 @@ pub fn place_alone<R: Raster>(
     ensures answer { result ≡ done (placing inserter.old.counter.format inserter.old.counter.next stripe column (R.Raster.rows slab.old) (R.Raster.words slab.old) image.now.bytes «record».now) }
     ensures next { inserter.new.counter.next ≡ next_first inserter.old.counter.format inserter.old.counter.next }
     ensures format { inserter.new.counter.format ≡ inserter.old.counter.format }
-    ensures rows { R.Raster.rows slab.new ≡ R.Raster.rows slab.old }
-    ensures words { R.Raster.words slab.new ≡ R.Raster.words slab.old }
     ensures kept { R.Raster.kept slab.old slab.new }
     ensures after { (i j : ℕ) → i < R.Raster.rows slab.old → j < R.Raster.words slab.old → R.Raster.at slab.new i j ≡ placed_at (placing inserter.old.counter.format inserter.old.counter.next stripe column (R.Raster.rows slab.old) (R.Raster.words slab.old) image.now.bytes «record».now) (R.Raster.at slab.old) column i j }
 {

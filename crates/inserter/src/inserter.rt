@@ -4,10 +4,7 @@ ghost use Rattle.inserter.specs.Count.{begun};
 
 use crate::Counter;
 use fault::Fault;
-use format::Format;
-
-// The largest reference: references count modulo 65521.
-const LAST_REFERENCE: u32 = 65520;
+use format::{Format, first_reference};
 
 // An inserter has a plain counter, which it lends to the picture that is open.
 #[derive(Drop)]
@@ -16,23 +13,15 @@ pub struct Inserter {
 }
 
 impl Inserter {
-    // An inserter for pictures of a format, the first of which begins at a first reference.
+    // An inserter for pictures of a format, the first of which begins at a first reference. Both come as numbers, since to refuse those that
+    // are neither (3 and 4) is part of the call.
     pub fn new(number: u32, first: u32) -> Result<Inserter, Fault>
         ensures { MatchResult result (λ i. begun number first ≡ Ok (i.counter.format, i.counter.next)) (λ fault. begun number first ≡ Err fault) }
     {
-        let (format, next) = judge(number, first)?;
+        let format = Format::try_from(number)?;
+        let next = first_reference(first)?;
         Ok(Inserter {
             counter: Counter { format, next },
         })
     }
-}
-
-fn judge(number: u32, first: u32) -> Result<(Format, u16), Fault>
-    ensures { result ≡ begun number first }
-{
-    let format = Format::of(number)?;
-    if first > LAST_REFERENCE {
-        return Err(Fault::FirstReference);
-    }
-    Ok((format, first as u16))
 }

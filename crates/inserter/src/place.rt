@@ -25,8 +25,6 @@ impl Picture<'_> {
         record: &Record,
     ) -> Result<(), Fault>
         ensures answer { result ≡ done (placing self.now.format self.now.first stripe column (R.Raster.rows slab.old) (R.Raster.words slab.old) image.now.bytes «record».now) }
-        ensures rows { R.Raster.rows slab.new ≡ R.Raster.rows slab.old }
-        ensures words { R.Raster.words slab.new ≡ R.Raster.words slab.old }
         ensures kept { R.Raster.kept slab.old slab.new }
         ensures after { (i j : ℕ) → i < R.Raster.rows slab.old → j < R.Raster.words slab.old → R.Raster.at slab.new i j ≡ placed_at (placing self.now.format self.now.first stripe column (R.Raster.rows slab.old) (R.Raster.words slab.old) image.now.bytes «record».now) (R.Raster.at slab.old) column i j }
         ensures reads { result ≡ Ok tt → decoded (carried_rows (R.Raster.at slab.new) column) ≡ Ok (block_for self.now.format self.now.first stripe column image.now.bytes «record».now) }

@@ -4,9 +4,9 @@ use Rattle.layer.specs.declared.field.FieldKind.TheVariants.{Top, Bottom}
 use Rattle.layer.specs.Neighbours.{WindowsApart, FieldsApart}
 
 pub windows_apart : WindowsApart
-windows_apart top left size top' left' size' rows words at at' apart around i j hi hj =
-    around (top' + i) (left' + j) (omega arith) (omega arith)
-    (λ w. apart (top' + i) (left' + j) w (omega arith, omega arith, omega arith, omega arith))
+windows_apart b b' rows words at at' apart around i j hi hj =
+    around (b'.top + i) (b'.left + j) (omega arith) (omega arith)
+    (λ w. apart (b'.top + i) (b'.left + j) w (omega arith, omega arith, omega arith, omega arith))
 
 pub fields_apart : FieldsApart
 fields_apart Top Top n rows words at at' kept i j hi hj = absurd (n refl)

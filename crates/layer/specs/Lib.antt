@@ -1,3 +1,4 @@
+pub mod Parts
 pub mod Field
 pub mod Window
 pub mod Neighbours

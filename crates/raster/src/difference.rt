@@ -31,6 +31,7 @@ fn differing_in_row<P: Raster, Q: Raster>(
     ensures answer { result ≡ Ok (differing_words (P.Raster.at a.now row) (Q.Raster.at b.now row) words) }
 {
     let mut count = 0;
+    // A chain would need a closure that can refuse, as each look can.
     for place in 0..words {
         let x = a.look(row, place)?;
         let y = b.look(row, place)?;

@@ -16,6 +16,10 @@ impl<'a, R: Raster> Raster for &'a mut R {
 
     ghost kept = { λ s t. (t.ghost_name ≡ s.ghost_name) × R.Raster.kept s.now t.now };
 
+    ghost rows_kept = { λ s t p. R.Raster.rows_kept s.now t.now p.1 };
+
+    ghost words_kept = { λ s t p. R.Raster.words_kept s.now t.now p.1 };
+
     ghost still = { λ s. (refl, R.Raster.still s.now) };
 
     ghost onward = { λ s t u p q. (q.0 ∙ p.0, R.Raster.onward s.now t.now u.now p.1 q.1) };

@@ -25,8 +25,12 @@ pub trait Raster {
     ghost ten: { (x : Self) (i j : ℕ) → at x i j < 1024 };
 
     // The frame: from the first to the second, all is the same that the raster has and does not show, which is
-    // the loans it holds, the other bits of its memory, and the words below it that lie outside it.
+    // its extent, the loans it holds, the other bits of its memory, and the words below it that lie outside it.
     ghost kept: { Self → Self → Type 0 };
+
+    ghost rows_kept: { (x y : Self) → kept x y → rows y ≡ rows x };
+
+    ghost words_kept: { (x y : Self) → kept x y → words y ≡ words x };
 
     ghost still: { (x : Self) → kept x x };
 
@@ -41,8 +45,6 @@ pub trait Raster {
 
     // Replaces bit 0 of the word at a row and a place.
     fn set(&mut self, row: usize, place: usize, bit: bool) -> Result<(), Fault>
-        ensures rows { rows self.new ≡ rows self.old }
-        ensures words { words self.new ≡ words self.old }
         ensures kept { kept self.old self.new }
         ensures answer { result ≡ answered (rows self.old) (words self.old) row place tt }
         ensures after { (i : ℕ) (j : ℕ) → i < rows self.old → j < words self.old → at self.new i j ≡ replaced (at self.old) row place bit i j };

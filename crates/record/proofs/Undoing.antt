@@ -1,5 +1,5 @@
 -- Encoding and decoding undo each other.
-use Rattle.std.proofs.Common.{ℕ, List, sym, refl, ap, ◌∙◌}
+use Rattle.std.proofs.Common.{ℕ, List, sym, refl, ap, ◌∙◌, rules}
 use mathlib.Core.Path.{fun_ext}
 use Rattle.std.proofs.lemmas.Bool.{eq-eqb, eqb-true}
 use Rattle.record.specs.Layout.{Sync, Reference, Element, found, rows_with, block_with, values_of, data_rows, block_of, has_sync}
@@ -47,15 +47,4 @@ rows_filled = refl
 
 pub samples : Samples
 unfolding data_rows block_of fits_widths
-samples = record {
-  flags = refl;
-  vector = refl;
-  minus_one = refl;
-  minus_one_back = refl;
-  mv000_least = refl;
-  mv000_under = refl;
-  mv000_most = refl;
-  mv000_over = refl;
-  mv001_most = refl;
-  mv001_over = refl;
-}
+samples = search rules

@@ -1,4 +1,3 @@
-pub mod Components
 pub mod Layout
 pub mod Rules
 pub mod Laws

@@ -13,4 +13,4 @@ pub use record::{Block, PictureFlags, Record};
 pub use rules::check_record;
 
 // The sync code, with which every block begins: five ones.
-const SYNC_CODE: u16 = 31;
+const SYNC_CODE: u16 = 0b11111;

@@ -1,13 +1,11 @@
 // A macroblock's record, and the block in which it travels.
-ghost use Rattle.std.specs.Prelude.{◌≡◌};
-ghost use Rattle.std.specs.Bool.{Decides};
-ghost use Rattle.std.specs.Cmp as Keys;
-ghost use Rattle.record.specs.Components.{flags_of, vectors_of, numbers_of};
-ghost use Rattle.record.specs.Equality.{is_same_record, is_same_block, is_same_record_laws, is_same_block_laws};
+ghost use Rattle.record.specs.Equality.{is_same_record_decides, is_same_flags_decides, is_same_block_decides};
+
+use exact::Exact;
 
 // The recoding data of one macroblock (SMPTE 327M). A vector mvrst has r for the vector, s for its direction, and t = 0 for
 // its horizontal component, 1 for the vertical. Every number has a width of its own, which may be less than its type's.
-#[derive(Clone, Copy)]
+#[derive(Clone, Copy, Default, PartialEq, Eq)]
 pub struct Record {
     pub mb_quant: bool,
     pub mb_mfwd: bool,
@@ -35,7 +33,7 @@ pub struct Record {
 }
 
 // The flags that every block of a picture has alike.
-#[derive(Clone, Copy, PartialEq, Eq)]
+#[derive(Clone, Copy, Default, PartialEq, Eq)]
 pub struct PictureFlags {
     pub fr_fl_srib: bool,
     pub top_field_first: bool,
@@ -45,7 +43,7 @@ pub struct PictureFlags {
 }
 
 // What the data rows of a block spell.
-#[derive(Clone, Copy)]
+#[derive(Clone, Copy, PartialEq, Eq)]
 pub struct Block {
     pub picture: PictureFlags,
     pub reference: u16,
@@ -53,90 +51,15 @@ pub struct Block {
     pub record: Record,
 }
 
-// The components by kind. By kind they are quicker to prove equal than one by one.
-impl Record {
-    fn flags(&self) -> [bool; 8]
-        ensures { result ≡ flags_of self.now }
-    {
-        [
-            self.mb_quant,
-            self.mb_mfwd,
-            self.mb_mbwd,
-            self.mb_pattern,
-            self.mb_intra,
-            self.dct_type,
-            self.skipped_mb,
-            self.slice_start_flag,
-        ]
-    }
-
-    fn vectors(&self) -> [i16; 8]
-        ensures { result ≡ vectors_of self.now }
-    {
-        [
-            self.mv000, self.mv001, self.mv010, self.mv011, self.mv100, self.mv101, self.mv110,
-            self.mv111,
-        ]
-    }
-
-    fn numbers(&self) -> [u8; 6]
-        ensures { result ≡ numbers_of self.now }
-    {
-        [
-            self.motion_type,
-            self.num_other_bits,
-            self.num_mv_bits,
-            self.q_scale_code,
-            self.mb_vert_field_sel,
-            self.coded_block_pattern,
-        ]
-    }
-
-    // Whether every component is that of the other.
-    #[tactic(auto, unfolding(crate::specs::Equality::is_same_record))]
-    fn has_parts_of(&self, other: &Record) -> bool
-        ensures { result ≡ is_same_record self.now other.now }
-    {
-        self.flags() == other.flags()
-            && self.vectors() == other.vectors()
-            && self.numbers() == other.numbers()
-            && self.num_coef_bits == other.num_coef_bits
-    }
+// `==` compares every part, so it holds of a record and itself, and of no two others.
+impl Exact for Record {
+    ghost exact = { is_same_record_decides };
 }
 
-impl PartialEq for Record {
-    ghost eq = { is_same_record };
-
-    ghost laws = { Keys.partial_equiv_from_equiv is_same_record_laws };
-
-    fn eq(&self, other: &Record) -> bool
-        ensures computed { result ≡ is_same_record self.now other.now }
-        ensures exact { Decides result (self.now ≡ other.now) }
-    {
-        self.has_parts_of(other)
-    }
+impl Exact for PictureFlags {
+    ghost exact = { is_same_flags_decides };
 }
 
-impl Eq for Record {
-    ghost laws = { is_same_record_laws };
-}
-
-impl PartialEq for Block {
-    ghost eq = { is_same_block };
-
-    ghost laws = { Keys.partial_equiv_from_equiv is_same_block_laws };
-
-    fn eq(&self, other: &Block) -> bool
-        ensures computed { result ≡ is_same_block self.now other.now }
-        ensures exact { Decides result (self.now ≡ other.now) }
-    {
-        self.picture == other.picture
-            && self.reference == other.reference
-            && self.element == other.element
-            && self.record == other.record
-    }
-}
-
-impl Eq for Block {
-    ghost laws = { is_same_block_laws };
+impl Exact for Block {
+    ghost exact = { is_same_block_decides };
 }

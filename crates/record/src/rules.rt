@@ -1,5 +1,5 @@
 // What a record keeps to be sent: the widths of its components, and two rules.
-ghost use Rattle.std.specs.Prelude.{◌≡◌, ◌&&◌, Decides, OnOk};
+ghost use Rattle.std.specs.Prelude.{◌≡◌, ◌<◌, ◌&&◌, Decides, OnOk};
 ghost use Rattle.record.specs.Rules.{fits_signed, horizontals_fit, verticals_fit, counts_fit, codes_fit, fits_widths, Within, intra_kept, skipped_kept, keeps_rules, checked};
 
 use crate::Record;
@@ -21,15 +21,10 @@ pub fn check_record(record: &Record) -> Result<(), Fault>
 
 impl Record {
     // Whether every component fits its width.
+    #[tactic(auto, using(crate::proofs::Widths::within, crate::proofs::Widths::passes), unfolding(crate::specs::Rules::fits_widths))]
     pub fn fits_widths(&self) -> bool
         ensures answer { result ≡ fits_widths self.now }
         ensures within { Decides result (Within self.now) }
-    {
-        self.all_fit()
-    }
-
-    fn all_fit(&self) -> bool
-        ensures { result ≡ (horizontals_fit self.now && verticals_fit self.now && counts_fit self.now && codes_fit self.now) }
     {
         self.horizontals_fit() && self.verticals_fit() && self.counts_fit() && self.codes_fit()
     }
@@ -37,15 +32,22 @@ impl Record {
     fn horizontals_fit(&self) -> bool
         ensures { result ≡ horizontals_fit self.now }
     {
-        fits_13(self.mv000) && fits_13(self.mv010) && fits_13(self.mv100) && fits_13(self.mv110)
+        fits::<13>(self.mv000)
+            && fits::<13>(self.mv010)
+            && fits::<13>(self.mv100)
+            && fits::<13>(self.mv110)
     }
 
     fn verticals_fit(&self) -> bool
         ensures { result ≡ verticals_fit self.now }
     {
-        fits_9(self.mv001) && fits_9(self.mv011) && fits_9(self.mv101) && fits_9(self.mv111)
+        fits::<9>(self.mv001)
+            && fits::<9>(self.mv011)
+            && fits::<9>(self.mv101)
+            && fits::<9>(self.mv111)
     }
 
+    // Any u8 is at most 255. That it is tested tells the proof so, here and below.
     fn counts_fit(&self) -> bool
         ensures { result ≡ counts_fit self.now }
     {
@@ -62,14 +64,9 @@ impl Record {
     }
 
     // Whether the record keeps the rules on mb_intra and skipped_mb.
+    #[tactic(auto, unfolding(crate::specs::Rules::keeps_rules))]
     pub fn keeps_rules(&self) -> bool
         ensures { result ≡ keeps_rules self.now }
-    {
-        self.all_kept()
-    }
-
-    fn all_kept(&self) -> bool
-        ensures { result ≡ (intra_kept self.now && skipped_kept self.now) }
     {
         self.intra_kept() && self.skipped_kept()
     }
@@ -88,16 +85,13 @@ impl Record {
     }
 }
 
-// A horizontal component has 13 bits.
-fn fits_13(x: i16) -> bool
-    ensures { result ≡ fits_signed 13 x }
+// Whether a number fits WIDTH bits in two's complement.
+#[tactic(auto, using(crate::proofs::Signs::power_small))]
+fn fits<const WIDTH: u32>(x: i16) -> bool
+    requires some { 0 < WIDTH }
+    requires few { WIDTH < 16 }
+    ensures { result ≡ fits_signed WIDTH x }
 {
-    -4096 <= x && x <= 4095
-}
-
-// A vertical component has 9.
-fn fits_9(x: i16) -> bool
-    ensures { result ≡ fits_signed 9 x }
-{
-    -256 <= x && x <= 255
+    let half = 1 << (WIDTH - 1);
+    -half <= x && x < half
 }

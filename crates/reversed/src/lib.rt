@@ -1,9 +1,8 @@
 // A raster that the libraries do not know: the rows of another, from the last to the first. It shows the meaning of a raster, so
-// everything above holds of it with no new proof; the test runs place, gather and deliver through it.
+// everything above holds of it with no new proof (it is no layer of the crate layer, which would be known); the test runs place, gather and deliver through it.
 #![tactic(auto)]
 
-ghost use Rattle.std.specs.Prelude.{◌≡◌, ℕ, ◌+◌, ◌-◌, ◌<◌, Ok, refl};
-ghost use Rattle.std.proofs.Common.{◌∙◌};
+ghost use Rattle.std.specs.Prelude.{◌≡◌, ℕ, ◌+◌, ◌-◌, ◌<◌, Ok};
 ghost use Rattle.raster.specs.Meaning.{answered, replaced};
 ghost use Rattle.reversed.specs.Rows.{mirrored};
 
@@ -29,24 +28,9 @@ impl<R: Raster> Reversed<R> {
     fn row_below(&self, row: usize, place: usize) -> Result<usize, Fault>
         ensures { result ≡ answered (R.Raster.rows self.now.below) (R.Raster.words self.now.below) row place (mirrored (R.Raster.rows self.now.below) row) }
     {
-        let Extent { rows, words } = self.below.extent();
-        if row < rows && place < words {
-            Ok(rows - 1 - row)
-        } else {
-            Err(Fault::Outside { row, word: place })
-        }
-    }
-
-    // Sets in the raster below, at the row that a row is there.
-    fn set_below(&mut self, below: usize, row: usize, place: usize, bit: bool) -> Result<(), Fault>
-        requires { Ok below ≡ answered (R.Raster.rows self.old.below) (R.Raster.words self.old.below) row place (mirrored (R.Raster.rows self.old.below) row) }
-        ensures answer { result ≡ Ok tt }
-        ensures rows { R.Raster.rows self.new.below ≡ R.Raster.rows self.old.below }
-        ensures words { R.Raster.words self.new.below ≡ R.Raster.words self.old.below }
-        ensures kept { R.Raster.kept self.old.below self.new.below }
-        ensures after { (i j : ℕ) → i < R.Raster.rows self.old.below → j < R.Raster.words self.old.below → R.Raster.at self.new.below (mirrored (R.Raster.rows self.old.below) i) j ≡ replaced (λ k. R.Raster.at self.old.below (mirrored (R.Raster.rows self.old.below) k)) row place bit i j }
-    {
-        self.below.set(below, place, bit)
+        let whole = self.below.extent();
+        whole.check(row, place)?;
+        Ok(whole.rows - 1 - row)
     }
 }
 
@@ -59,11 +43,15 @@ impl<R: Raster> Raster for Reversed<R> {
 
     ghost ten = { λ s i j. R.Raster.ten s.below (mirrored (R.Raster.rows s.below) i) j };
 
-    ghost kept = { λ s t. (R.Raster.rows t.below ≡ R.Raster.rows s.below) × (R.Raster.words t.below ≡ R.Raster.words s.below) × R.Raster.kept s.below t.below };
+    ghost kept = { λ s t. R.Raster.kept s.below t.below };
 
-    ghost still = { λ s. (refl, refl, R.Raster.still s.below) };
+    ghost rows_kept = { λ s t. R.Raster.rows_kept s.below t.below };
 
-    ghost onward = { λ s t u p q. (q.0 ∙ p.0, q.1 ∙ p.1, R.Raster.onward s.below t.below u.below p.2 q.2) };
+    ghost words_kept = { λ s t. R.Raster.words_kept s.below t.below };
+
+    ghost still = { λ s. R.Raster.still s.below };
+
+    ghost onward = { λ s t u. R.Raster.onward s.below t.below u.below };
 
     fn extent(&self) -> Extent {
         self.below.extent()
@@ -74,8 +62,9 @@ impl<R: Raster> Raster for Reversed<R> {
         self.below.look(below, place)
     }
 
+    #[tactic(auto, using(crate::proofs::Mirror::mirror_inside, crate::proofs::Mirror::mirror_same))]
     fn set(&mut self, row: usize, place: usize, bit: bool) -> Result<(), Fault> {
-        let below = (*self).row_below(row, place)?;
-        self.set_below(below, row, place, bit)
+        let below = self.row_below(row, place)?;
+        self.below.set(below, place, bit)
     }
 }

@@ -15,32 +15,6 @@ const SLAB: Extent = Extent {
     words: 1440,
 };
 
-const ZEROS: Record = Record {
-    mb_quant: false,
-    mb_mfwd: false,
-    mb_mbwd: false,
-    mb_pattern: false,
-    mb_intra: false,
-    dct_type: false,
-    mv000: 0,
-    mv001: 0,
-    mv010: 0,
-    mv011: 0,
-    mv100: 0,
-    mv101: 0,
-    mv110: 0,
-    mv111: 0,
-    motion_type: 0,
-    skipped_mb: false,
-    num_other_bits: 0,
-    slice_start_flag: false,
-    num_mv_bits: 0,
-    q_scale_code: 0,
-    mb_vert_field_sel: 0,
-    num_coef_bits: 0,
-    coded_block_pattern: 0,
-};
-
 fn place_all<R: Raster>(
     picture: &Picture<'_>,
     stripe: usize,
@@ -48,7 +22,7 @@ fn place_all<R: Raster>(
     image: &SealedImage,
 ) -> Result<(), Fault> {
     for column in 0..45 {
-        picture.place(stripe, column, slab, image, &ZEROS)?;
+        picture.place(stripe, column, slab, image, &Record::default())?;
     }
     Ok(())
 }

@@ -1,7 +1,6 @@
 // Slots, which hold a value that was offered, or the fact that unequal values were, and tables of them.
 #![tactic(auto)]
 
-mod exact;
 mod search;
 mod slot;
 mod table;

@@ -15,10 +15,5 @@ pub fn lowest<V>(slots: &[Slot<V>], state: State) -> Option<usize>
 fn first_in<V>(slots: &[Slot<V>], state: State) -> Option<usize>
     ensures { Lowest state slots.now result }
 {
-    for (i, slot) in slots.iter().enumerate() {
-        if slot.is_in(state) {
-            return Some(i);
-        }
-    }
-    None
+    slots.iter().position(|slot| slot.state() == state)
 }

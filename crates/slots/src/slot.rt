@@ -1,8 +1,8 @@
 // A slot, and what an offer makes of it.
-ghost use Rattle.std.specs.Prelude.{◌≡◌, Decides};
+ghost use Rattle.std.specs.Prelude.{◌≡◌};
 ghost use Rattle.slots.specs.Slots.{states, state_of, offered, Listed};
 
-use crate::Exact;
+use exact::Exact;
 
 // Empty, held with the value that was offered, or disputed: unequal values were.
 #[derive(Clone, Copy, Drop)]
@@ -40,29 +40,17 @@ impl<V> Slot<V> {
             Slot::Disputed => State::Disputed,
         }
     }
-
-    pub(crate) fn is_in(&self, state: State) -> bool
-        ensures { Decides result (state_of self.now ≡ state) }
-    {
-        self.state() == state
-    }
 }
 
-impl<V: Exact> Slot<V> {
+impl<V: Exact + Copy> Slot<V> {
     // The slot after a value is offered.
     pub fn offered(self, value: V) -> Slot<V>
-        ensures { result ≡ offered V.Exact.same self value }
+        ensures { result ≡ offered V.PartialEq.eq self value }
     {
         match self {
             Slot::Empty => Slot::Held(value),
-            Slot::Held(held) => {
-                if held.is_same(&value) {
-                    Slot::Held(held)
-                } else {
-                    Slot::Disputed
-                }
-            }
-            Slot::Disputed => Slot::Disputed,
+            Slot::Held(held) if held == value => Slot::Held(held),
+            Slot::Held(_) | Slot::Disputed => Slot::Disputed,
         }
     }
 }

@@ -2,20 +2,11 @@
 use Rattle.std.specs.Prelude.{ℕ, List, replicate}
 use Rattle.slots.specs.declared.slot.Slot.{Slot}
 use Rattle.slots.specs.declared.slot.Slot.TheVariants.{Empty}
-use Rattle.format.specs.declared.table.Format.TheVariants.{Bench}
 use Rattle.image.specs.Image.{done}
 use Rattle.extractor.specs.declared.gathering.Gathering.{Gathering}
 use Rattle.extractor.specs.Delivery.{delivering}
-use Rattle.bench.specs.Gather.{tally_in, table_after}
+use Rattle.bench.specs.Gather.{bench_picture, tally_in, table_of}
 use Rattle.survey.specs.declared.report.Survey.{Survey}
-
--- the picture that is gathered: format 4, from reference 0
-abbrev pub bench_picture : Gathering
-bench_picture = record { format = Bench; first = 0 }
-
--- the table after the three stripes, with a sheet of 45 slots
-abbrev pub table_of : Gathering → List ℕ → List ℕ → List ℕ → List (Slot ℕ) → List (Slot ℕ)
-table_of g first second third table = table_after g 2 third 45 (table_after g 1 second 45 (table_after g 0 first 45 table))
 
 -- what is counted of each stripe, and what deliver answers of the table that they leave
 abbrev pub surveyed_by : Gathering → List ℕ → List ℕ → List ℕ → List (Slot ℕ) → Survey
@@ -24,9 +15,9 @@ surveyed_by g first second third table =
       first = tally_in g 0 first 135 45;
       second = tally_in g 1 second 135 45;
       third = tally_in g 2 third 135 45;
-      delivered = done (delivering (table_of g first second third table));
+      delivered = done (delivering (table_of g first second third 45 table));
     }
 
 -- the survey of three memories: all is gathered in order of position, on an empty table
-unfoldable pub surveyed : List ℕ → List ℕ → List ℕ → Survey
+abbrev pub surveyed : List ℕ → List ℕ → List ℕ → Survey
 surveyed first second third = surveyed_by bench_picture first second third (replicate 135 Empty)

@@ -17,13 +17,7 @@ fn run(rt: &HostRuntime) -> anyhow::Result<()> {
     let mut slabs = Slabs::read(rt)?;
     let mut slots = empty_slots(rt.alloc(), 135)?;
     let mut sheet = empty_slots(rt.alloc(), 45)?;
-    let survey = survey_picture(
-        &mut slabs.first,
-        &mut slabs.second,
-        &mut slabs.third,
-        &mut slots,
-        &mut sheet,
-    )?;
+    let survey = survey_picture(&mut slabs, &mut slots, &mut sheet)?;
     println!(rt; "{survey}")?;
     Ok(())
 }

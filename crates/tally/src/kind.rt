@@ -8,7 +8,7 @@ pub enum Kind {
     Bad,
 }
 
-#[derive(Clone, Copy, Debug, PartialEq, Eq)]
+#[derive(Clone, Copy, Debug, Default, PartialEq, Eq)]
 pub struct Tally {
     pub good: usize,
     pub foreign: usize,

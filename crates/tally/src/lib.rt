@@ -7,4 +7,3 @@ mod telling;
 
 pub use kind::{Kind, Tally};
 pub use stripe::{first_missing, gather_stripe};
-pub use telling::kind_of;

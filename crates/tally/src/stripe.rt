@@ -5,8 +5,7 @@ ghost use Rattle.slots.specs.Slots.{lowest_in};
 ghost use Rattle.extractor.specs.Gather.{gathered};
 ghost use Rattle.tally.specs.Stripe.{tallied, elements_offered, records_offered};
 
-use crate::Tally;
-use crate::telling::kind_of;
+use crate::{Kind, Tally};
 use extractor::Gathering;
 use raster::Raster;
 use record::Record;
@@ -26,14 +25,10 @@ pub fn gather_stripe<R: Raster>(
     ensures table_name { table.new.slots.ghost_name ≡ table.old.slots.ghost_name }
     ensures sheet_name { sheet.new.slots.ghost_name ≡ sheet.old.slots.ghost_name }
 {
-    let mut tally = Tally {
-        good: 0,
-        foreign: 0,
-        bad: 0,
-    };
+    let mut tally = Tally::default();
     for column in 0..(*sheet).len() {
         let answer = gathering.gather(stripe, column, slab, table, sheet);
-        tally = tally.told(kind_of(&answer));
+        tally = tally.told(Kind::from(&answer));
     }
     tally
 }

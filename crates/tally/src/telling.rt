@@ -17,17 +17,15 @@ impl Kind {
     }
 }
 
-pub fn kind_of(answer: &Result<Block, Fault>) -> Kind
-    ensures { result ≡ kind_of answer.now }
-{
-    match answer {
-        Ok(_) => Kind::Good,
-        Err(fault) => {
-            if fault.number() == 19 {
-                Kind::Foreign
-            } else {
-                Kind::Bad
-            }
+// What kind of answer it is.
+impl<'a> From<&'a Result<Block, Fault>> for Kind {
+    ghost from_gives = { λ answer kind. kind ≡ kind_of answer.now };
+
+    fn from(answer: &'a Result<Block, Fault>) -> Kind {
+        match answer {
+            Ok(_) => Kind::Good,
+            Err(Fault::UnexpectedReference) => Kind::Foreign,
+            Err(_) => Kind::Bad,
         }
     }
 }
@@ -41,18 +39,15 @@ impl Tally {
         match kind {
             Kind::Good => Tally {
                 good: self.good + 1,
-                foreign: self.foreign,
-                bad: self.bad,
+                ..self
             },
             Kind::Foreign => Tally {
-                good: self.good,
                 foreign: self.foreign + 1,
-                bad: self.bad,
+                ..self
             },
             Kind::Bad => Tally {
-                good: self.good,
-                foreign: self.foreign,
                 bad: self.bad + 1,
+                ..self
             },
         }
     }

@@ -1,22 +1,22 @@
 // Answers about delivering: elements of an image and single values are offered to a table, and it is delivered.
-use crate::case::{Words, count_of};
 use crate::images::{Change, element_in, last_element, mend};
-use crate::stop::Stop;
-use crate::tables::{empties, offer_of};
+use crate::tables::{Offer, empties};
+use cases::{Refusal, Stop, Words, parsed};
 use extractor::deliver;
-use fault::{Fault, Place};
+use fault::Fault;
 use image::SealedImage;
 use slots::Table;
 use std::alloc::Global;
 use std::fmt;
+use std::str::FromStr;
 
 // What deliver answers over the blank image, and the check that the image has then.
 pub fn deliver_case(heap: Global, case: &mut Words<'_>) -> Result<String, Stop> {
-    let mut slots = empties::<u32>(heap, case.half()?)?;
+    let mut slots = empties::<u32>(heap, case.take()?)?;
     let mut table = Table::new(&mut slots);
     let mut bytes = *SealedImage::blank().bytes();
-    for word in (*case).rest() {
-        let step = Step::of(*word)?;
+    for word in case.rest() {
+        let step: Step = parsed(word)?;
         step.on(&mut table, &mut bytes)?;
     }
     let said = Delivered::of(&table);
@@ -25,39 +25,41 @@ pub fn deliver_case(heap: Global, case: &mut Words<'_>) -> Result<String, Stop> 
 
 // What comes before the delivery: the image's bits are inverted (15^40) or its check mended, its elements are offered (0:135 is
 // all of them), or a value is (5=70).
-#[derive(Drop)]
+#[derive(Clone, Copy)]
 enum Step {
     Mend,
     Invert(Change),
-    Elements(usize, usize),
-    Offer(usize, u32),
+    Elements { from: usize, to: usize },
+    Offer(Offer),
 }
 
-impl Step {
-    fn of(word: &str) -> anyhow::Result<Step> {
+impl FromStr for Step {
+    type Err = anyhow::Error;
+
+    fn from_str(word: &str) -> anyhow::Result<Step> {
         if word == "mend" {
             return Ok(Step::Mend);
         }
-        match word.split_once(':') {
-            Some((from, to)) => Ok(Step::Elements(count_of(from)?, count_of(to)?)),
-            None => Step::single(word),
+        if let Some((from, to)) = word.split_once(':') {
+            return Ok(Step::Elements {
+                from: parsed(from)?,
+                to: parsed(to)?,
+            });
+        }
+        match word.split_once('^') {
+            Some((place, bits)) => Ok(Step::Invert(Change::at(place, bits)?)),
+            None => Ok(Step::Offer(parsed(word)?)),
         }
     }
+}
 
-    fn single(word: &str) -> anyhow::Result<Step> {
-        if let Some((place, bits)) = word.split_once('^') {
-            return Ok(Step::Invert(Change::at(place, bits)?));
-        }
-        let (at, value) = offer_of(word)?;
-        Ok(Step::Offer(at, value))
-    }
-
+impl Step {
     fn on(&self, table: &mut Table<'_, u32>, bytes: &mut [u8; 540]) -> Result<(), Stop> {
         match self {
             Step::Mend => mend(bytes),
             Step::Invert(change) => change.invert(bytes)?,
-            Step::Elements(from, to) => offer_elements(table, bytes, *from, *to)?,
-            Step::Offer(at, value) => table.offer(*at, *value)?,
+            Step::Elements { from, to } => offer_elements(table, bytes, *from, *to)?,
+            Step::Offer(offer) => offer.make(table)?,
         }
         Ok(())
     }
@@ -76,7 +78,7 @@ fn offer_elements(
     Ok(())
 }
 
-// What a delivery over the blank image comes to.
+// What a delivery over the blank image comes to, and the check that the image has then.
 #[derive(Drop)]
 pub struct Delivered {
     answer: Result<(), Fault>,
@@ -95,18 +97,12 @@ impl Delivered {
 impl fmt::Display for Delivered {
     fn fmt<W: fmt::Write>(&self, f: &mut fmt::Formatter<W>) -> fmt::Result {
         let check = self.check;
-        match &self.answer {
+        match self.answer {
             Ok(()) => write!(f, "delivered {check:08X}"),
-            Err(fault) => refused(fault, check, f),
+            Err(fault) => {
+                let refusal = Refusal(fault);
+                write!(f, "{refusal} {check:08X}")
+            }
         }
-    }
-}
-
-// The number of a refusal, and the slot if it names one.
-fn refused<W: fmt::Write>(fault: &Fault, check: u32, f: &mut fmt::Formatter<W>) -> fmt::Result {
-    let number = fault.number();
-    match fault.place() {
-        Place::Slot(slot) => write!(f, "refused {number} {slot} {check:08X}"),
-        _ => write!(f, "refused {number} {check:08X}"),
     }
 }

@@ -1,6 +1,5 @@
 // Answers about formats and references.
-use crate::case::Words;
-use crate::stop::Stop;
+use cases::{Stop, Words};
 use fault::Fault;
 use format::Format;
 use inserter::Inserter;
@@ -11,7 +10,7 @@ use std::fmt::Write;
 // Each macroblock of a stripe: its reference and the index of its element.
 pub fn stripe_case(heap: Global, case: &mut Words<'_>) -> Result<String, Stop> {
     let stripe = StripeCase::of(case)?;
-    let format = Format::of(stripe.number)?;
+    let format = Format::try_from(stripe.number)?;
     let mut line = String::from_str(heap, "stripe")?;
     for column in 0..format.columns() {
         let place = stripe.place(format, column)?;
@@ -22,9 +21,9 @@ pub fn stripe_case(heap: Global, case: &mut Words<'_>) -> Result<String, Stop> {
 
 // The first references of three pictures of a new inserter.
 pub fn pictures_case(heap: Global, case: &mut Words<'_>) -> Result<String, Stop> {
-    let number = case.number()?;
-    let first = case.number()?;
-    (*case).end()?;
+    let number = case.take()?;
+    let first = case.take()?;
+    case.end()?;
     let mut inserter = Inserter::new(number, first)?;
     let mut line = String::from_str(heap, "pictures")?;
     for _ in 0..3 {
@@ -45,11 +44,11 @@ struct StripeCase {
 impl StripeCase {
     fn of(case: &mut Words<'_>) -> anyhow::Result<StripeCase> {
         let stripe = StripeCase {
-            number: case.number()?,
-            first: case.half()?,
-            stripe: case.count()?,
+            number: case.take()?,
+            first: case.take()?,
+            stripe: case.take()?,
         };
-        (*case).end()?;
+        case.end()?;
         Ok(stripe)
     }
 
@@ -70,8 +69,7 @@ struct Place {
 
 impl fmt::Display for Place {
     fn fmt<W: fmt::Write>(&self, f: &mut fmt::Formatter<W>) -> fmt::Result {
-        let reference = self.reference;
-        let index = self.index;
+        let Place { reference, index } = self;
         write!(f, "{reference}:{index}")
     }
 }

@@ -1,23 +1,47 @@
 // Slabs in memory that is filled from a seed.
 ghost use Rattle.std.specs.Prelude.{◌≡◌, ◌+◌, ◌*◌, ◌/◌, ◌%◌, ◌^◌};
 
-use crate::case::Words;
 use anyhow::anyhow;
-use raster::Extent;
+use buffer::{PackedBuffer, WordBuffer};
+use cases::Words;
+use crc::check;
+use layer::{Field, FieldKind};
+use raster::{Extent, Raster};
 use std::alloc::Global;
+use std::str::FromStr;
+
+// What a case does on its slab, whatever raster that is. A closure could not be generic over the raster.
+pub trait OnSlab {
+    type Said;
+
+    fn on<R: Raster>(self, slab: &mut R) -> Self::Said;
+}
 
 // What raster a slab is: a buffer, or a field of a word buffer of twice the rows.
 #[derive(Clone, Copy)]
-pub enum Kind {
+enum Kind {
     Word,
     Packed,
-    Top,
-    Bottom,
+    Field(FieldKind),
+}
+
+impl FromStr for Kind {
+    type Err = anyhow::Error;
+
+    fn from_str(word: &str) -> anyhow::Result<Kind> {
+        match word {
+            "word" => Ok(Kind::Word),
+            "packed" => Ok(Kind::Packed),
+            "top" => Ok(Kind::Field(FieldKind::Top)),
+            "bottom" => Ok(Kind::Field(FieldKind::Bottom)),
+            _ => Err(anyhow!("a slab of no known kind")),
+        }
+    }
 }
 
 #[derive(Clone, Copy)]
 pub struct SlabCase {
-    pub kind: Kind,
+    kind: Kind,
     rows: u16,
     words: u16,
     seed: u32,
@@ -27,14 +51,14 @@ impl SlabCase {
     // Takes four words of a case: the kind, rows, words and the seed.
     pub fn of(case: &mut Words<'_>) -> anyhow::Result<SlabCase> {
         Ok(SlabCase {
-            kind: kind_of(case.next()?)?,
-            rows: case.half()?,
-            words: case.half()?,
-            seed: case.number()?,
+            kind: case.take()?,
+            rows: case.take()?,
+            words: case.take()?,
+            seed: case.take()?,
         })
     }
 
-    pub fn extent(&self) -> Extent
+    fn extent(&self) -> Extent
         ensures { result ≡ record { rows = self.now.rows; words = self.now.words } }
     {
         Extent {
@@ -51,7 +75,7 @@ impl SlabCase {
     }
 
     // The extent of the word buffer that has the slab as a field.
-    pub fn doubled(&self) -> Extent
+    fn doubled(&self) -> Extent
         ensures { result ≡ record { rows = 2 * self.now.rows; words = self.now.words } }
     {
         Extent {
@@ -60,55 +84,86 @@ impl SlabCase {
         }
     }
 
-    pub fn cells(&self, heap: Global) -> anyhow::Result<Vec<u16>> {
+    // The slab, in memory of its own.
+    pub fn filled(&self, heap: Global) -> anyhow::Result<Slab> {
         let words = usize::from(self.rows) * usize::from(self.words);
-        match self.kind {
-            Kind::Top | Kind::Bottom => cells_from(heap, self.seed, 2 * words),
-            _ => cells_from(heap, self.seed, words),
+        let memory = match self.kind {
+            Kind::Word => Memory::Word(self.cells(heap, words)?),
+            Kind::Packed => Memory::Packed(self.bytes(heap, words / 4 * 5)?),
+            Kind::Field(kind) => Memory::Field(kind, self.cells(heap, 2 * words)?),
+        };
+        Ok(Slab {
+            case: *self,
+            memory,
+        })
+    }
+
+    // The high halves of the states after the seed.
+    fn cells(&self, heap: Global, count: usize) -> anyhow::Result<Vec<u16>> {
+        let states = States(self.seed).take(count);
+        Ok(states.map(|state| (state >> 16) as u16).collect(heap)?)
+    }
+
+    // The high bytes of the states after the seed.
+    fn bytes(&self, heap: Global, count: usize) -> anyhow::Result<Vec<u8>> {
+        let states = States(self.seed).take(count);
+        Ok(states.map(|state| (state >> 24) as u8).collect(heap)?)
+    }
+}
+
+// A slab and its memory.
+#[derive(Drop)]
+pub struct Slab {
+    case: SlabCase,
+    memory: Memory,
+}
+
+#[derive(Drop)]
+enum Memory {
+    Word(Vec<u16>),
+    Packed(Vec<u8>),
+    Field(FieldKind, Vec<u16>),
+}
+
+impl Slab {
+    // Hands the slab out, as the raster that it is.
+    pub fn lend<A: OnSlab>(&mut self, act: A) -> A::Said {
+        let case = self.case;
+        match &mut self.memory {
+            Memory::Word(cells) => act.on(&mut WordBuffer::new(case.extent(), cells)),
+            Memory::Packed(bytes) => act.on(&mut PackedBuffer::new(case.extent(), bytes)),
+            Memory::Field(kind, cells) => {
+                let below = WordBuffer::new(case.doubled(), cells);
+                act.on(&mut Field::new(below, *kind))
+            }
         }
     }
 
-    pub fn bytes(&self, heap: Global) -> anyhow::Result<Vec<u8>> {
-        let words = usize::from(self.rows) * usize::from(self.words);
-        bytes_from(heap, self.seed, words / 4 * 5)
+    // The check of all the memory.
+    pub fn check(&self) -> u32 {
+        match &self.memory {
+            Memory::Word(cells) | Memory::Field(_, cells) => check(cells),
+            Memory::Packed(bytes) => check(bytes),
+        }
     }
 }
 
-fn kind_of(word: &str) -> anyhow::Result<Kind> {
-    match word {
-        "word" => Ok(Kind::Word),
-        "packed" => Ok(Kind::Packed),
-        "top" => Ok(Kind::Top),
-        "bottom" => Ok(Kind::Bottom),
-        _ => Err(anyhow!("a slab of no known kind")),
-    }
-}
+// The states of the generator after a state.
+#[derive(Drop)]
+struct States(u32);
 
-// The high halves of the states after the seed.
-fn cells_from(heap: Global, seed: u32, count: usize) -> anyhow::Result<Vec<u16>> {
-    let mut cells = Vec::new(heap);
-    let mut state = seed;
-    for _ in 0..count {
-        state = next_state(state);
-        cells.push((state >> 16) as u16)?;
-    }
-    Ok(cells)
-}
+impl Iterator for States {
+    type Item = u32;
 
-// The high bytes of the states after the seed.
-fn bytes_from(heap: Global, seed: u32, count: usize) -> anyhow::Result<Vec<u8>> {
-    let mut bytes = Vec::new(heap);
-    let mut state = seed;
-    for _ in 0..count {
-        state = next_state(state);
-        bytes.push((state >> 24) as u8)?;
+    fn next(&mut self) -> Option<u32> {
+        self.0 = next_state(self.0);
+        Some(self.0)
     }
-    Ok(bytes)
 }
 
 // One step of the generator.
 fn next_state(state: u32) -> u32
     ensures { result ≡ (1664525 * state + 1013904223) % 2 ^ 32 }
 {
-    ((1664525 * u64::from(state) + 1013904223) % 4294967296) as u32
+    state.wrapping_mul(1664525).wrapping_add(1013904223)
 }

@@ -1,14 +1,10 @@
 // Answers about placing: a record on a macroblock of a new picture.
-use crate::case::Words;
 use crate::images::image_of;
-use crate::memory::{Kind, SlabCase};
-use crate::stop::Stop;
-use buffer::{PackedBuffer, WordBuffer};
-use crc::{of_bytes, of_rows};
+use crate::memory::{OnSlab, Slab, SlabCase};
+use cases::{Refusal, Stop, Words};
 use fault::Fault;
 use image::SealedImage;
 use inserter::Inserter;
-use layer::{Field, FieldKind};
 use raster::{Raster, count_differing};
 use record::Record;
 use std::alloc::Global;
@@ -17,47 +13,20 @@ use std::alloc::Global;
 pub fn place_case(heap: Global, case: &mut Words<'_>) -> Result<String, Stop> {
     let slab = SlabCase::of(case)?;
     let placing = Placing::of(case)?;
-    let image = image_of(heap, (*case).rest())?;
-    match slab.kind {
-        Kind::Packed => in_bytes(heap, slab, &placing, &image),
-        _ => in_cells(heap, slab, &placing, &image),
-    }
-}
-
-fn in_bytes(
-    heap: Global,
-    slab: SlabCase,
-    placing: &Placing,
-    image: &SealedImage,
-) -> Result<String, Stop> {
-    let mut before = slab.bytes(heap)?;
-    let mut after = before.clone()?;
-    let moved = placing.in_packed(slab, &mut before, &mut after, image);
-    placed_line(heap, moved, of_bytes(&after))
-}
-
-fn in_cells(
-    heap: Global,
-    slab: SlabCase,
-    placing: &Placing,
-    image: &SealedImage,
-) -> Result<String, Stop> {
-    let mut before = slab.cells(heap)?;
-    let mut after = before.clone()?;
-    let moved = match slab.kind {
-        Kind::Top => placing.in_field(slab, FieldKind::Top, &mut before, &mut after, image),
-        Kind::Bottom => placing.in_field(slab, FieldKind::Bottom, &mut before, &mut after, image),
-        _ => placing.in_word(slab, &mut before, &mut after, image),
-    };
-    placed_line(heap, moved, of_rows(&after))
-}
-
-fn placed_line(heap: Global, moved: Result<u128, Fault>, digest: u32) -> Result<String, Stop> {
+    let image = image_of(heap, case.rest())?;
+    let mut before = slab.filled(heap)?;
+    let mut after = slab.filled(heap)?;
+    let moved = after.lend(Placed {
+        placing,
+        image: &image,
+        before: &mut before,
+    });
+    let digest = after.check();
     match moved {
         Ok(count) => Ok(format!(in heap; "placed {count} {digest:08X}")?),
         Err(fault) => {
-            let number = fault.number();
-            Ok(format!(in heap; "refused {number} {digest:08X}")?)
+            let refusal = Refusal(fault);
+            Ok(format!(in heap; "{refusal} {digest:08X}")?)
         }
     }
 }
@@ -65,6 +34,7 @@ fn placed_line(heap: Global, moved: Result<u128, Fault>, digest: u32) -> Result<
 // What is placed, and where.
 #[derive(Drop)]
 struct Placing {
+    // It may be no format's, and the first reference too large: the calls refuse them.
     number: u32,
     first: u32,
     stripe: usize,
@@ -75,67 +45,46 @@ struct Placing {
 impl Placing {
     fn of(case: &mut Words<'_>) -> anyhow::Result<Placing> {
         Ok(Placing {
-            number: case.number()?,
-            first: case.number()?,
-            stripe: case.count()?,
-            column: case.count()?,
+            number: case.take()?,
+            first: case.take()?,
+            stripe: case.take()?,
+            column: case.take()?,
             record: case.record()?,
         })
-    }
-
-    fn in_packed(
-        &self,
-        slab: SlabCase,
-        before: &mut [u8],
-        after: &mut [u8],
-        image: &SealedImage,
-    ) -> Result<u128, Fault> {
-        let old = PackedBuffer::new(slab.extent(), before);
-        let mut new = PackedBuffer::new(slab.extent(), after);
-        self.moved(&old, &mut new, image)
-    }
-
-    fn in_word(
-        &self,
-        slab: SlabCase,
-        before: &mut [u16],
-        after: &mut [u16],
-        image: &SealedImage,
-    ) -> Result<u128, Fault> {
-        let old = WordBuffer::new(slab.extent(), before);
-        let mut new = WordBuffer::new(slab.extent(), after);
-        self.moved(&old, &mut new, image)
-    }
-
-    fn in_field(
-        &self,
-        slab: SlabCase,
-        kind: FieldKind,
-        before: &mut [u16],
-        after: &mut [u16],
-        image: &SealedImage,
-    ) -> Result<u128, Fault> {
-        let mut below = WordBuffer::new(slab.doubled(), before);
-        let mut buffer = WordBuffer::new(slab.doubled(), after);
-        let old = Field::new(&mut below, kind);
-        let mut new = Field::new(&mut buffer, kind);
-        self.moved(&old, &mut new, image)
-    }
-
-    // Places in a slab, and counts the words that differ from those of another.
-    fn moved<P: Raster, Q: Raster>(
-        &self,
-        old: &P,
-        new: &mut Q,
-        image: &SealedImage,
-    ) -> Result<u128, Fault> {
-        self.place(new, image)?;
-        count_differing(old, &*new)
     }
 
     fn place<R: Raster>(&self, slab: &mut R, image: &SealedImage) -> Result<(), Fault> {
         let mut inserter = Inserter::new(self.number, self.first)?;
         let picture = inserter.counter.open();
         picture.place(self.stripe, self.column, slab, image, &self.record)
+    }
+}
+
+// Places in a slab, and counts the words that differ from those before.
+#[derive(Drop)]
+struct Placed<'a> {
+    placing: Placing,
+    image: &'a SealedImage,
+    before: &'a mut Slab,
+}
+
+impl OnSlab for Placed<'_> {
+    type Said = Result<u128, Fault>;
+
+    fn on<R: Raster>(self, slab: &mut R) -> Result<u128, Fault> {
+        self.placing.place(slab, self.image)?;
+        self.before.lend(Differing(&*slab))
+    }
+}
+
+// Counts the words in which a slab differs from another.
+#[derive(Drop)]
+struct Differing<'a, P>(&'a P);
+
+impl<P: Raster> OnSlab for Differing<'_, P> {
+    type Said = Result<u128, Fault>;
+
+    fn on<R: Raster>(self, slab: &mut R) -> Result<u128, Fault> {
+        count_differing(&*slab, self.0)
     }
 }

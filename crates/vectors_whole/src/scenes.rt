@@ -1,141 +1,97 @@
 // Answers about whole pictures: macroblocks are placed in a slab, damaged and gathered, stripe after stripe, and the table is
 // delivered.
-use crate::case::Words;
 use crate::deliveries::Delivered;
-use crate::images::Change;
-use crate::memory::{Kind, SlabCase};
-use crate::stop::Stop;
-use crate::tables::{States, empties, states_of};
+use crate::images::{Change, data_in};
+use crate::memory::{OnSlab, SlabCase};
+use crate::tables::{States, empties};
 use anyhow::{Context, anyhow};
-use buffer::{PackedBuffer, WordBuffer};
+use cases::{Stop, Words, parsed};
 use extractor::{Gathering, start};
-use fault::{Fault, numbers};
+use fault::Fault;
 use image::SealedImage;
 use inserter::{Inserter, Picture};
-use layer::{Field, FieldKind};
 use raster::Raster;
 use record::Record;
 use slots::Table;
-use std::alloc::Global;
+use std::alloc::{AllocError, Global};
+use std::collections::BTreeMap;
 use std::fmt;
+use std::str::FromStr;
 
 // How the places and the gathers end, what table and sheet hold then, and what deliver answers.
 pub fn scene_case(heap: Global, case: &mut Words<'_>) -> Result<String, Stop> {
     let slab = SlabCase::of(case)?;
     let scene = Scene::of(heap, slab.columns(), case)?;
-    match slab.kind {
-        Kind::Packed => {
-            let mut bytes = slab.bytes(heap)?;
-            scene.in_packed(slab, &mut bytes, (*case).rest())
-        }
-        _ => {
-            let mut cells = slab.cells(heap)?;
-            scene.in_cells(slab, &mut cells, (*case).rest())
-        }
-    }
+    slab.filled(heap)?.lend(scene)
 }
 
-// A format, the first references of the picture that is placed and of the one that is gathered, and the slots of the sheet.
+// A format, the first references of the picture that is placed and of the one that is gathered, the slots of the sheet, and the
+// steps to take.
 #[derive(Drop)]
-struct Scene {
+struct Scene<'a> {
     heap: Global,
     number: u32,
     placed: u32,
     gathered: u32,
     lines: u16,
+    steps: &'a [&'a str],
 }
 
-impl Scene {
-    fn of(heap: Global, lines: u16, case: &mut Words<'_>) -> anyhow::Result<Scene> {
+impl<'a> Scene<'a> {
+    fn of(heap: Global, lines: u16, case: &mut Words<'a>) -> anyhow::Result<Scene<'a>> {
         Ok(Scene {
             heap,
-            number: case.number()?,
-            placed: case.number()?,
-            gathered: case.number()?,
+            number: case.take()?,
+            placed: case.take()?,
+            gathered: case.take()?,
             lines,
+            steps: case.rest(),
         })
     }
 
-    fn in_packed(&self, slab: SlabCase, memory: &mut [u8], words: &[&str]) -> Result<String, Stop> {
-        let mut buffer = PackedBuffer::new(slab.extent(), memory);
-        self.answer(&mut buffer, words)
-    }
-
-    fn in_cells(&self, slab: SlabCase, memory: &mut [u16], words: &[&str]) -> Result<String, Stop> {
-        match slab.kind {
-            Kind::Top => self.in_field(slab, FieldKind::Top, memory, words),
-            Kind::Bottom => self.in_field(slab, FieldKind::Bottom, memory, words),
-            _ => self.in_word(slab, memory, words),
-        }
-    }
-
-    fn in_word(&self, slab: SlabCase, memory: &mut [u16], words: &[&str]) -> Result<String, Stop> {
-        let mut buffer = WordBuffer::new(slab.extent(), memory);
-        self.answer(&mut buffer, words)
-    }
-
-    fn in_field(
-        &self,
-        slab: SlabCase,
-        kind: FieldKind,
-        memory: &mut [u16],
-        words: &[&str],
-    ) -> Result<String, Stop> {
-        let mut buffer = WordBuffer::new(slab.doubled(), memory);
-        let mut field = Field::new(&mut buffer, kind);
-        self.answer(&mut field, words)
-    }
-
-    // All places are in one open picture.
-    fn answer<R: Raster>(&self, slab: &mut R, words: &[&str]) -> Result<String, Stop> {
-        let mut inserter = Inserter::new(self.number, self.placed)?;
-        let picture = inserter.counter.open();
-        self.run(&picture, slab, words)
-    }
-
-    fn run<R: Raster>(
-        &self,
-        picture: &Picture<'_>,
-        slab: &mut R,
-        words: &[&str],
-    ) -> Result<String, Stop> {
+    fn run<R: Raster>(&self, picture: &Picture<'_>, slab: &mut R) -> Result<String, Stop> {
         let mut slots = empties::<u32>(self.heap, 135)?;
         let mut lines = empties::<Record>(self.heap, self.lines)?;
         let mut table = Table::new(&mut slots);
         let mut sheet = Table::new(&mut lines);
         let gathering = start(self.number, self.gathered, &mut table)?;
-        let mut counts = Counts::none();
+        let mut placed = Ends::none(self.heap);
+        let mut gathered = Ends::none(self.heap);
         let mut image = SealedImage::blank();
-        for word in words {
-            match Step::of(*word)? {
-                Step::Change(change) => replace_in(self.heap, &mut image, &change)?,
+        for word in self.steps {
+            match parsed(word)? {
+                Step::Change(change) => replace_in(self.heap, &mut image, change)?,
                 Step::Flip(flip) => flip.on(slab),
-                Step::Place(span) => span.place(picture, slab, &image, &mut counts),
+                Step::Place(span) => span.place(picture, slab, &image, &mut placed)?,
                 Step::Gather(span) => {
-                    span.gather(&gathering, &*slab, &mut table, &mut sheet, &mut counts)
+                    span.gather(&gathering, &*slab, &mut table, &mut sheet, &mut gathered)?
                 }
             }
         }
-        self.line(&counts, &table, &sheet)
+        let slots = States::of(&table);
+        let lines = States::of(&sheet);
+        let said = Delivered::of(&table);
+        let line = format!(in self.heap;
+            "scene placed {placed} gathered {gathered} table {slots} sheet {lines} {said}"
+        )?;
+        Ok(line)
     }
+}
 
-    fn line(
-        &self,
-        counts: &Counts,
-        table: &Table<'_, u32>,
-        sheet: &Table<'_, Record>,
-    ) -> Result<String, Stop> {
-        let slots = states_of(table)?;
-        let lines = states_of(sheet)?;
-        let said = Delivered::of(table);
-        Ok(format!(in self.heap; "scene {counts} table {slots} sheet {lines} {said}")?)
+impl OnSlab for Scene<'_> {
+    type Said = Result<String, Stop>;
+
+    // All places are in one open picture.
+    fn on<R: Raster>(self, slab: &mut R) -> Result<String, Stop> {
+        let mut inserter = Inserter::new(self.number, self.placed)?;
+        let picture = inserter.counter.open();
+        self.run(&picture, slab)
     }
 }
 
 // Replaces a byte of the image's data and seals it anew.
-fn replace_in(heap: Global, image: &mut SealedImage, change: &Change) -> Result<(), Stop> {
-    let mut bytes = Vec::new(heap);
-    bytes.extend_from_slice(&image.bytes()[0..536])?;
+fn replace_in(heap: Global, image: &mut SealedImage, change: Change) -> Result<(), Stop> {
+    let mut bytes = data_in(heap, image)?;
     change.replace(&mut bytes)?;
     image.seal(&bytes)?;
     Ok(())
@@ -143,7 +99,7 @@ fn replace_in(heap: Global, image: &mut SealedImage, change: &Change) -> Result<
 
 // One step: a byte of the image is replaced (15=80), bits of a row of a block are flipped (flip:COLUMN:ROW:BITS), or columns FROM
 // up to TO of a stripe are placed or gathered (place:STRIPE:FROM:TO).
-#[derive(Drop)]
+#[derive(Clone, Copy)]
 enum Step {
     Change(Change),
     Flip(Flip),
@@ -151,55 +107,57 @@ enum Step {
     Gather(Span),
 }
 
-impl Step {
-    fn of(word: &str) -> anyhow::Result<Step> {
-        match word.split_once(':') {
-            Some((act, numbers)) => Step::named(act, numbers),
-            None => Ok(Step::Change(Change::of(word)?)),
-        }
-    }
+impl FromStr for Step {
+    type Err = anyhow::Error;
 
-    fn named(act: &str, numbers: &str) -> anyhow::Result<Step> {
-        match act {
-            "flip" => Ok(Step::Flip(Flip::of(numbers)?)),
-            "place" => Ok(Step::Place(Span::of(numbers)?)),
-            "gather" => Ok(Step::Gather(Span::of(numbers)?)),
-            _ => Err(anyhow!("a step of no known kind")),
+    fn from_str(word: &str) -> anyhow::Result<Step> {
+        match word.split_once(':') {
+            None => Ok(Step::Change(parsed(word)?)),
+            Some(("flip", numbers)) => Ok(Step::Flip(parsed(numbers)?)),
+            Some(("place", numbers)) => Ok(Step::Place(parsed(numbers)?)),
+            Some(("gather", numbers)) => Ok(Step::Gather(parsed(numbers)?)),
+            Some(_) => Err(anyhow!("a step of no known kind")),
         }
     }
 }
 
+// The three numbers of a step.
+fn parted(numbers: &str) -> anyhow::Result<(&str, &str, &str)> {
+    let mut parts = numbers.splitn(3, ':');
+    let mut next = || parts.next().context("a step of too few numbers");
+    Ok((next()?, next()?, next()?))
+}
+
 // Bits of a row of the block in a column.
-#[derive(Drop)]
+#[derive(Clone, Copy)]
 struct Flip {
     column: u16,
     row: u16,
     bits: u16,
 }
 
-impl Flip {
-    fn of(numbers: &str) -> anyhow::Result<Flip> {
-        let (column, bits) = parted(numbers)?;
-        let (row, bits) = parted(bits)?;
+impl FromStr for Flip {
+    type Err = anyhow::Error;
+
+    fn from_str(numbers: &str) -> anyhow::Result<Flip> {
+        let (column, row, bits) = parted(numbers)?;
         Ok(Flip {
-            column: column.parse::<u16>()?,
-            row: row.parse::<u16>()?,
+            column: parsed(column)?,
+            row: parsed(row)?,
             bits: u16::from_str_radix(bits, 16)?,
         })
     }
+}
 
+impl Flip {
+    // The first bit of a row is the highest. Where there is no such word, nothing is flipped.
     fn on<R: Raster>(&self, slab: &mut R) {
-        let mut bits = self.bits;
+        let row = usize::from(self.row);
+        let first = 32 * usize::from(self.column);
         for k in 0..16 {
-            if bits >= 32768 {
-                // Where there is no such word, nothing is flipped.
-                let _ = flip_word(
-                    slab,
-                    usize::from(self.row),
-                    32 * usize::from(self.column) + 2 * k,
-                );
+            if self.bits >> (15 - k) & 1 == 1 {
+                let _ = flip_word(slab, row, first + 2 * k);
             }
-            bits = bits % 32768 * 2;
         }
     }
 }
@@ -209,46 +167,41 @@ fn flip_word<R: Raster>(slab: &mut R, row: usize, place: usize) -> Result<(), Fa
     slab.set(row, place, word % 2 == 0)
 }
 
-fn parted(numbers: &str) -> anyhow::Result<(&str, &str)> {
-    Ok(
-        numbers
-            .split_once(':')
-            .context("a step of too few numbers")?,
-    )
-}
-
 // Columns of a stripe.
-#[derive(Drop)]
+#[derive(Clone, Copy)]
 struct Span {
     stripe: u16,
     from: u16,
     to: u16,
 }
 
-impl Span {
-    fn of(numbers: &str) -> anyhow::Result<Span> {
-        let (stripe, columns) = parted(numbers)?;
-        let (from, to) = parted(columns)?;
+impl FromStr for Span {
+    type Err = anyhow::Error;
+
+    fn from_str(numbers: &str) -> anyhow::Result<Span> {
+        let (stripe, from, to) = parted(numbers)?;
         Ok(Span {
-            stripe: stripe.parse::<u16>()?,
-            from: from.parse::<u16>()?,
-            to: to.parse::<u16>()?,
+            stripe: parsed(stripe)?,
+            from: parsed(from)?,
+            to: parsed(to)?,
         })
     }
+}
 
+impl Span {
     fn place<R: Raster>(
         &self,
         picture: &Picture<'_>,
         slab: &mut R,
         image: &SealedImage,
-        counts: &mut Counts,
-    ) {
+        ends: &mut Ends,
+    ) -> Result<(), AllocError> {
         let stripe = usize::from(self.stripe);
         for column in self.from..self.to {
             let record = record_at(self.stripe, column);
-            let answer = picture.place(stripe, usize::from(column), slab, image, &record);
-            counts.placed.add(answer.err());
+            ends.add(picture.place(stripe, usize::from(column), slab, image, &record))?;
         }
+        Ok(())
     }
 
     fn gather<R: Raster>(
@@ -257,104 +210,61 @@ impl Span {
         slab: &R,
         table: &mut Table<'_, u32>,
         sheet: &mut Table<'_, Record>,
-        counts: &mut Counts,
-    ) {
+        ends: &mut Ends,
+    ) -> Result<(), AllocError> {
         let stripe = usize::from(self.stripe);
         sheet.clear();
         for column in self.from..self.to {
-            let answer = gathering.gather(stripe, usize::from(column), slab, table, sheet);
-            counts.gathered.add(answer.err());
+            ends.add(gathering.gather(stripe, usize::from(column), slab, table, sheet))?;
         }
+        Ok(())
     }
 }
 
 // Zeros, but for mb_intra in odd columns, q_scale_code, which counts the stripes, and num_coef_bits, the columns.
 fn record_at(stripe: u16, column: u16) -> Record {
     Record {
-        mb_quant: false,
-        mb_mfwd: false,
-        mb_mbwd: false,
-        mb_pattern: false,
         mb_intra: column % 2 == 1,
-        dct_type: false,
-        mv000: 0,
-        mv001: 0,
-        mv010: 0,
-        mv011: 0,
-        mv100: 0,
-        mv101: 0,
-        mv110: 0,
-        mv111: 0,
-        motion_type: 0,
-        skipped_mb: false,
-        num_other_bits: 0,
-        slice_start_flag: false,
-        num_mv_bits: 0,
         q_scale_code: (stripe % 32) as u8,
-        mb_vert_field_sel: 0,
         num_coef_bits: column % 16384,
-        coded_block_pattern: 0,
+        ..Record::default()
     }
 }
 
+// How many calls were accepted, and how many refused with each number.
 #[derive(Drop)]
-struct Counts {
-    placed: Ends,
-    gathered: Ends,
+struct Ends {
+    accepted: u32,
+    refused: BTreeMap<u8, u32>,
 }
-
-impl Counts {
-    fn none() -> Counts {
-        Counts {
-            placed: Ends([0; 27]),
-            gathered: Ends([0; 27]),
-        }
-    }
-}
-
-// How many calls were accepted, at 0, and how many refused with each number.
-#[derive(Drop)]
-struct Ends([u32; 27]);
 
 impl Ends {
-    fn add(&mut self, fault: Option<Fault>) {
-        match fault {
-            None => self.count(0),
-            Some(fault) => self.count(usize::from(fault.number())),
+    fn none(heap: Global) -> Ends {
+        Ends {
+            accepted: 0,
+            refused: BTreeMap::new(heap),
         }
     }
 
-    fn count(&mut self, at: usize) {
-        if at < 27 {
-            self.0[at] = self.0[at].saturating_add(1);
-        }
-    }
-}
-
-impl fmt::Display for Ends {
-    fn fmt<W: fmt::Write>(&self, f: &mut fmt::Formatter<W>) -> fmt::Result {
-        let accepted = self.0[0];
-        write!(f, "{accepted}")?;
-        for number in numbers() {
-            self.refused(number, f)?;
+    fn add<T: Drop>(&mut self, answer: Result<T, Fault>) -> Result<(), AllocError> {
+        match answer {
+            Ok(_) => self.accepted = self.accepted.saturating_add(1),
+            Err(fault) => {
+                let count = self.refused.entry(fault.number())?.or_insert(0);
+                *count = count.saturating_add(1);
+            }
         }
         Ok(())
     }
 }
 
-impl Ends {
-    fn refused<W: fmt::Write>(&self, number: u8, f: &mut fmt::Formatter<W>) -> fmt::Result {
-        match self.0.get(usize::from(number)).copied().unwrap_or(0) {
-            0 => Ok(()),
-            count => write!(f, " !{number}={count}"),
-        }
-    }
-}
-
-impl fmt::Display for Counts {
+impl fmt::Display for Ends {
     fn fmt<W: fmt::Write>(&self, f: &mut fmt::Formatter<W>) -> fmt::Result {
-        let placed = &self.placed;
-        let gathered = &self.gathered;
-        write!(f, "placed {placed} gathered {gathered}")
+        let accepted = self.accepted;
+        write!(f, "{accepted}")?;
+        for (number, count) in &self.refused {
+            write!(f, " !{number}={count}")?;
+        }
+        Ok(())
     }
 }

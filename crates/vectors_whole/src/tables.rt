@@ -2,140 +2,167 @@
 ghost use Rattle.std.specs.Prelude.{◌≡◌, ℕ, ◌<◌, IfOk, slice_index_or, vec_len};
 ghost use Rattle.slots.specs.declared.slot.Slot.TheVariants.{Empty};
 
-use crate::case::{Words, count_of, number_of};
-use crate::stop::Stop;
+use crate::told::Told;
 use anyhow::Context;
+use cases::{Stop, Words, parsed};
+use exact::Exact;
 use fault::Fault;
-use slots::{Exact, Slot, State, Table};
+use slots::{Slot, State, Table};
 use std::alloc::Global;
 use std::fmt;
 use std::fmt::Write;
+use std::str::FromStr;
 
 pub fn slots_case(heap: Global, case: &mut Words<'_>) -> Result<String, Stop> {
-    let length = case.half()?;
-    let mut slots = empties::<u32>(heap, length)?;
+    let mut slots = empties::<u32>(heap, case.take()?)?;
     let mut table = Table::new(&mut slots);
     let mut line = String::from_str(heap, "slots")?;
-    for word in (*case).rest() {
-        let step = Step::of(*word)?;
-        let said = step.on(&mut table);
+    for word in case.rest() {
+        let step: Step = parsed(word)?;
+        let said = Told(step.on(&mut table));
         write!(line, " {said}")?;
     }
     Ok(line)
 }
 
 // So many empty slots.
-pub fn empties<V: Exact>(heap: Global, length: u16) -> anyhow::Result<Vec<Slot<V>>>
+pub fn empties<V: Exact + Copy>(heap: Global, length: u16) -> anyhow::Result<Vec<Slot<V>>>
     ensures len { IfOk result (λ v. vec_len v ≡ length) }
     ensures empty { IfOk result (λ v. (k : ℕ) → k < length → slice_index_or v.items k Empty ≡ Empty) }
 {
-    let mut slots = Vec::new(heap);
-    slots.resize(usize::from(length), Slot::Empty)?;
-    Ok(slots)
-}
-
-// Makes the offers that words such as 5=70 give.
-pub fn offer_all(table: &mut Table<'_, u32>, words: &[&str]) -> Result<(), Stop> {
-    for word in words {
-        let (at, value) = offer_of(*word)?;
-        table.offer(at, value)?;
-    }
-    Ok(())
+    Ok(vec![in heap; Slot::Empty; usize::from(length)]?)
 }
 
 // An offer such as 5=70.
-pub fn offer_of(word: &str) -> anyhow::Result<(usize, u32)> {
-    let (at, value) = word.split_once('=').context("an offer of no value")?;
-    Ok((count_of(at)?, number_of(value)?))
+#[derive(Clone, Copy)]
+pub struct Offer {
+    at: usize,
+    value: u32,
 }
 
-// The slots that are not empty, each with its number.
-pub fn add_slots(line: &mut String, table: &Table<'_, u32>) -> Result<(), Stop> {
+impl Offer {
+    pub fn make(&self, table: &mut Table<'_, u32>) -> Result<(), Fault> {
+        table.offer(self.at, self.value)
+    }
+}
+
+impl FromStr for Offer {
+    type Err = anyhow::Error;
+
+    fn from_str(word: &str) -> anyhow::Result<Offer> {
+        let (at, value) = word.split_once('=').context("an offer of no value")?;
+        Ok(Offer {
+            at: parsed(at)?,
+            value: parsed(value)?,
+        })
+    }
+}
+
+// What is printed of a value that a slot holds.
+pub trait Shown {
+    type Text: fmt::Display + Drop;
+
+    fn shown(&self) -> Result<Self::Text, Fault>;
+}
+
+impl Shown for u32 {
+    type Text = u32;
+
+    fn shown(&self) -> Result<u32, Fault> {
+        Ok(*self)
+    }
+}
+
+// The slots that are not empty, each with its number. A table has no iterator: its call answers one slot.
+pub fn add_slots<V: Exact + Copy + Shown>(
+    line: &mut String,
+    table: &Table<'_, V>,
+) -> Result<(), Stop> {
     for at in 0..table.len() {
         match table.slot(at)? {
             Slot::Empty => {}
-            Slot::Held(value) => write!(line, " {at}={value}")?,
+            Slot::Held(value) => {
+                let text = value.shown()?;
+                write!(line, " {at}={text}")?;
+            }
             Slot::Disputed => write!(line, " {at}=*")?,
         }
     }
     Ok(())
 }
 
-// How many slots are in each state.
-#[derive(Drop)]
+// How many slots are held, disputed and empty.
+#[derive(Clone, Copy)]
 pub struct States {
-    held: u32,
-    disputed: u32,
-    empty: u32,
+    held: usize,
+    disputed: usize,
+    empty: usize,
 }
 
 impl States {
-    fn add(&mut self, state: State) {
-        match state {
-            State::Held => self.held = self.held.saturating_add(1),
-            State::Disputed => self.disputed = self.disputed.saturating_add(1),
-            State::Empty => self.empty = self.empty.saturating_add(1),
+    pub fn of<V: Exact + Copy>(table: &Table<'_, V>) -> States {
+        States {
+            held: count_in(table, State::Held),
+            disputed: count_in(table, State::Disputed),
+            empty: count_in(table, State::Empty),
         }
     }
 }
 
-pub fn states_of<V: Exact>(table: &Table<'_, V>) -> Result<States, Fault> {
-    let mut states = States {
-        held: 0,
-        disputed: 0,
-        empty: 0,
-    };
-    for at in 0..table.len() {
-        states.add(table.slot(at)?.state());
-    }
-    Ok(states)
+fn count_in<V: Exact + Copy>(table: &Table<'_, V>, state: State) -> usize {
+    (0..table.len())
+        .filter(|at| table.slot(*at).is_ok_and(|slot| slot.state() == state))
+        .count()
 }
 
 impl fmt::Display for States {
     fn fmt<W: fmt::Write>(&self, f: &mut fmt::Formatter<W>) -> fmt::Result {
-        let held = self.held;
-        let disputed = self.disputed;
-        let empty = self.empty;
+        let States {
+            held,
+            disputed,
+            empty,
+        } = self;
         write!(f, "{held} {disputed} {empty}")
     }
 }
 
 // What a word says to do with a table.
-#[derive(Drop)]
+#[derive(Clone, Copy)]
 enum Step {
     Clear,
     Search(State),
     Ask(usize),
-    Offer(usize, u32),
+    Offer(Offer),
 }
 
-impl Step {
-    fn of(word: &str) -> anyhow::Result<Step> {
+impl FromStr for Step {
+    type Err = anyhow::Error;
+
+    fn from_str(word: &str) -> anyhow::Result<Step> {
         match word {
             "clear" => Ok(Step::Clear),
             "empty" => Ok(Step::Search(State::Empty)),
             "held" => Ok(Step::Search(State::Held)),
             "disputed" => Ok(Step::Search(State::Disputed)),
-            _ => Step::numbered(word),
+            _ if word.contains('=') => Ok(Step::Offer(parsed(word)?)),
+            _ => Ok(Step::Ask(parsed(word)?)),
         }
     }
+}
 
-    fn numbered(word: &str) -> anyhow::Result<Step> {
-        match word.split_once('=') {
-            Some((at, value)) => Ok(Step::Offer(count_of(at)?, number_of(value)?)),
-            None => Ok(Step::Ask(count_of(word)?)),
-        }
-    }
-
-    fn on(&self, table: &mut Table<'_, u32>) -> Said {
+impl Step {
+    fn on(&self, table: &mut Table<'_, u32>) -> Result<Said, Fault> {
         match self {
             Step::Clear => {
                 table.clear();
-                Said::Done
+                Ok(Said::Done)
             }
-            Step::Search(state) => Said::Lowest((*table).lowest(*state)),
-            Step::Ask(at) => slot_said((*table).slot(*at)),
-            Step::Offer(at, value) => offer_said(table.offer(*at, *value)),
+            Step::Search(state) => Ok(Said::Lowest(table.lowest(*state))),
+            Step::Ask(at) => Ok(Said::Found(table.slot(*at)?)),
+            Step::Offer(offer) => {
+                offer.make(table)?;
+                Ok(Said::Done)
+            }
         }
     }
 }
@@ -144,38 +171,19 @@ impl Step {
 #[derive(Drop)]
 enum Said {
     Done,
-    Refused(Fault),
     Lowest(Option<usize>),
     Found(Slot<u32>),
-}
-
-fn slot_said(answer: Result<Slot<u32>, Fault>) -> Said {
-    match answer {
-        Ok(slot) => Said::Found(slot),
-        Err(fault) => Said::Refused(fault),
-    }
-}
-
-fn offer_said(answer: Result<(), Fault>) -> Said {
-    match answer {
-        Ok(()) => Said::Done,
-        Err(fault) => Said::Refused(fault),
-    }
 }
 
 impl fmt::Display for Said {
     fn fmt<W: fmt::Write>(&self, f: &mut fmt::Formatter<W>) -> fmt::Result {
         match self {
-            Said::Done => f.write_str("ok"),
-            Said::Refused(fault) => {
-                let number = fault.number();
-                write!(f, "!{number}")
-            }
-            Said::Lowest(None) => f.write_str("none"),
+            Said::Done => write!(f, "ok"),
+            Said::Lowest(None) => write!(f, "none"),
             Said::Lowest(Some(at)) => write!(f, "{at}"),
-            Said::Found(Slot::Empty) => f.write_str("-"),
+            Said::Found(Slot::Empty) => write!(f, "-"),
             Said::Found(Slot::Held(value)) => write!(f, "{value}"),
-            Said::Found(Slot::Disputed) => f.write_str("*"),
+            Said::Found(Slot::Disputed) => write!(f, "*"),
         }
     }
 }

@@ -64,9 +64,9 @@ fn shown_and_no_other(
     other: u16,
 ) -> Result<(), Fail> {
     let packed = PackedBuffer::new(BELOW, memory);
-    for row in 0..6 {
+    for (row, is_shown) in shown.into_iter().enumerate() {
         for place in 0..8 {
-            let word = if shown[row] && place >= 3 { one } else { other };
+            let word = if is_shown && place >= 3 { one } else { other };
             assert_eq!(rt; packed.look(row, place)?, word);
         }
     }

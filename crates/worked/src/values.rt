@@ -35,8 +35,8 @@ fn scrambled_by_both_parities(rt: HostRuntime) -> Result<(), Fail> {
 
 // Chroma words of 512, in cells whose upper six bits are ones, and luma words of 64.
 fn fill(memory: &mut [u16]) {
-    for i in 0..memory.len() {
-        memory[i] = if i % 2 == 0 { 0xfc00 + 512 } else { 64 };
+    for (i, cell) in memory.iter_mut().enumerate() {
+        *cell = if i % 2 == 0 { 0xfc00 + 512 } else { 64 };
     }
 }
 

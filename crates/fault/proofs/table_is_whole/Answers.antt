@@ -1,5 +1,5 @@
-use Rattle.fault.proofs.Complete.{listed, used, apart, ascending}
+use Rattle.fault.proofs.Complete.{listed, used, apart, told, ascending}
 use Rattle.fault.proofs.table_is_whole.Goals as goal
 
 pub returns : goal.returns
-returns c = record { listed = listed; used = used; apart = apart; ascending = ascending }
+returns c = record { listed = listed; used = used; apart = apart; told = told; ascending = ascending }

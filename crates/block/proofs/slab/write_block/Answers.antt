@@ -1,19 +1,8 @@
 -- A refused write leaves every word, so none differs.
-use Rattle.std.proofs.Common.{false, [], refl, rules}
+use Rattle.std.proofs.Common.{false, [], refl}
 use Rattle.column.proofs.Laws.{few_differ}
 use Rattle.block.proofs.slab.write_block.Goals as goal
 
-pub returns-in_err-rows : goal.returns-in_err-rows
-returns-in_err-rows g c =
-    let at = g.R.Raster.at c.args.slab.now in
-    record {
-      answer = search rules;
-      rows = search rules;
-      words = search rules;
-      kept = search rules;
-      after = search rules;
-      reads = search rules;
-      others = search rules;
-      only = search rules;
-      few = few_differ at at (g.R.Raster.rows c.args.slab.now) (g.R.Raster.words c.args.slab.now) 0 [] false (λ i j hi hj. refl);
-    }
+pub returns-in_err-rows-clause-few : goal.returns-in_err-rows-clause-few
+returns-in_err-rows-clause-few g c =
+    let at = g.R.Raster.at c.args.slab.now in few_differ at at (g.R.Raster.rows c.args.slab.now) (g.R.Raster.words c.args.slab.now) 0 [] false (λ i j hi hj. refl)

@@ -14,11 +14,9 @@ returns g c =
     let ok : w.result ≡ Ok tt = w.ensures.answer ∙ ap (λ x. done (writable (m.rows c.args.slab.now) (m.words c.args.slab.now) c.args.column x)) b ∙ writes _ _ c.args.stripe c.args.column rows words (search rules) (search rules) in
     record {
       answer = ok;
-      rows = w.ensures.rows ∙ rows;
-      words = w.ensures.words ∙ words;
       kept = w.ensures.kept;
       one = record {
-        reads = sym (read_inside (m.rows w.new.slab) (m.words w.new.slab) c.args.column (m.at w.new.slab) (w.ensures.rows ∙ rows) (w.ensures.words ∙ words) (search rules)) ∙ w.ensures.reads ok c.block_at.ensures.reference ∙ ap Ok b;
+        reads = sym (read_inside (m.rows w.new.slab) (m.words w.new.slab) c.args.column (m.at w.new.slab) (m.rows_kept c.args.slab.now w.new.slab w.ensures.kept ∙ rows) (m.words_kept c.args.slab.now w.new.slab w.ensures.kept ∙ words) (search rules)) ∙ w.ensures.reads ok c.block_at.ensures.reference ∙ ap Ok b;
         others = λ k d h. w.ensures.others k d (omega (arith, rows)) (omega (arith, words, h));
         only = λ i j hi hj. w.ensures.only i j (omega (arith, rows)) (omega (arith, words));
       };

@@ -16,8 +16,6 @@ returns g c =
     = λ i j hi hj. c.embed_rows.ensures.after i j hi hj ∙ window_embeds (m.at s) c.in_ok-window.window column rows i j w in
     record {
       answer = search rules;
-      rows = search rules;
-      words = search rules;
       kept = search rules;
       after = rw c.embed_rows.ensures.answer done;
       reads = λ _. reads_back (m.at s) (m.at t) (m.rows s) (m.words s) column rows (search rules) (search rules) done c.told-rows c.fits-rows;
@@ -33,8 +31,6 @@ returns-in_err-window g c =
     let words = g.R.Raster.words c.args.slab.now in
     record {
       answer = search rules;
-      rows = search rules;
-      words = search rules;
       kept = search rules;
       after = search rules;
       reads = search rules;

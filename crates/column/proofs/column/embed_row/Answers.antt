@@ -5,9 +5,7 @@ use Rattle.column.proofs.column.embed_row.Goals as goal
 pub loop-k-preserved : goal.loop-k-preserved
 loop-k-preserved g c =
     let m = g.R.Raster in (
-      search rules,
-      search rules,
-      m.onward c.args.slab.now c.loop-k.slab c.embed_bit.new.slab c.loop-k.invariant.2 c.embed_bit.ensures.kept,
+      m.onward c.args.slab.now c.loop-k.slab c.embed_bit.new.slab c.loop-k.invariant.0 c.embed_bit.ensures.kept,
       bit_more (m.at c.args.slab.now) (m.at c.loop-k.slab) (m.at c.embed_bit.new.slab) _ _ (c.args.window.row + c.args.row) c.args.window.word c.args.value c.loop-k.k c.bit_of.result
-          (search rules) (search rules) (search rules) (search rules) c.loop-k.invariant.3 (λ i j hi hj. c.embed_bit.ensures.after i j (search rules) (search rules)),
+          (search rules) (search rules) (search rules) (search rules) c.loop-k.invariant.1 (λ i j hi hj. c.embed_bit.ensures.after i j (search rules) (search rules)),
     )

@@ -6,5 +6,5 @@ use Rattle.column.proofs.column.embed_row.Given as goal
 abbrev pub invariant-loop-k : goal.invariant-loop-k
 invariant-loop-k g l =
     let m = g.R.Raster in
-    (m.rows l.slab ≡ m.rows l.initial.slab) × (m.words l.slab ≡ m.words l.initial.slab) × m.kept l.initial.slab l.slab
+    m.kept l.initial.slab l.slab
     × ((i j : ℕ) → i < m.rows l.initial.slab → j < m.words l.initial.slab → m.at l.slab i j ≡ cond (eqb i (l.window.row + l.row)) (line_to (m.at l.initial.slab i) l.window.word l.value l.k j) (m.at l.initial.slab i j))

@@ -6,5 +6,5 @@ use Rattle.column.proofs.column.embed_rows.Given as goal
 abbrev pub invariant-loop-row : goal.invariant-loop-row
 invariant-loop-row g l =
     let m = g.R.Raster in
-    (m.rows l.slab ≡ m.rows l.initial.slab) × (m.words l.slab ≡ m.words l.initial.slab) × m.kept l.initial.slab l.slab
+    m.kept l.initial.slab l.slab
     × ((i j : ℕ) → i < m.rows l.initial.slab → j < m.words l.initial.slab → m.at l.slab i j ≡ rows_to (m.at l.initial.slab) l.window l.rows l.row i j)

@@ -5,4 +5,4 @@ use Rattle.extractor.specs.Delivery.{held_in}
 use Rattle.extractor.proofs.delivery.elements_in.Given as goal
 
 abbrev pub invariant-loop-i : goal.invariant-loop-i
-invariant-loop-i l = (length l.elements ≡ 135) × ((k : ℕ) → k < l.i → get_or l.elements k 0 ≡ held_in (get_or l.table.slots.now k Empty))
+invariant-loop-i l = (length l.element-items ≡ 135) × ((k : ℕ) → k < l.i → get_or l.element-items k 0 ≡ held_in (get_or l.table.slots.now k Empty))

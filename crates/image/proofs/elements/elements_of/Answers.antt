@@ -8,11 +8,11 @@ use Rattle.image.proofs.elements.elements_of.Goals as goal
 pub loop-i-preserved : goal.loop-i-preserved
 loop-i-preserved c =
     let element = element_of c.args.bytes.now in
-    (search rules, rw c.element_of.ensures (fill_by_more element c.loop-i.elements c.loop-i.i 0 (search rules) c.loop-i.invariant.1))
+    (search rules, rw c.element_of.ensures (fill_by_more element c.loop-i.element-items c.loop-i.i 0 (search rules) c.loop-i.invariant.1))
 
-all : (c : goal.After-loop-i) → c.loop-i.elements ≡ elements_of c.args.bytes.now
+all : (c : goal.After-loop-i) → c.loop-i.element-items ≡ elements_of c.args.bytes.now
 unfolding elements_of
-all c = fill_by_all (element_of c.args.bytes.now) c.loop-i.elements 135 0 c.loop-i.invariant.0 (λ k h. c.loop-i.invariant.1 k (search rules))
+all c = fill_by_all (element_of c.args.bytes.now) c.loop-i.element-items 135 0 c.loop-i.invariant.0 (λ k h. c.loop-i.invariant.1 k (search rules))
 
 pub returns : goal.returns
 returns c =

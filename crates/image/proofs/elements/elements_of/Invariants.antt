@@ -4,4 +4,4 @@ use Rattle.image.specs.Elements.{element_of}
 use Rattle.image.proofs.elements.elements_of.Given as goal
 
 abbrev pub invariant-loop-i : goal.invariant-loop-i
-invariant-loop-i l = (length l.elements ≡ 135) × ((j : ℕ) → j < l.i → get_or l.elements j 0 ≡ element_of l.bytes j)
+invariant-loop-i l = (length l.element-items ≡ 135) × ((j : ℕ) → j < l.i → get_or l.element-items j 0 ≡ element_of l.bytes j)

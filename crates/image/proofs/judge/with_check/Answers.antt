@@ -1,8 +1,8 @@
 use Rattle.image.specs.Image.{with_check}
-use Rattle.image.proofs.Sealing.{four_set}
+use Rattle.image.proofs.Sealing.{end_put}
 use Rattle.image.proofs.judge.with_check.Goals as goal
 
 pub returns : goal.returns
 unfolding with_check
 returns c =
-    simp (c.to_be_bytes-check.ensures, c.copy_from_slice.ensures.after, c.of_bytes.ensures) (four_set c.args.data.now _ _ _ _ c.requires)
+    simp (c.check.ensures, c.to_be_bytes.ensures, c.copy_from_slice-2.ensures.after, c.copy_from_slice.ensures.after) (end_put c.args.data.now _ c.requires)

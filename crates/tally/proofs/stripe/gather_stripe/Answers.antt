@@ -11,7 +11,9 @@ loop-column-init g c =
     let slots = c.args.table.now.slots.now in
     let sheet = c.args.sheet.now.slots.now in
     let answers = λ (k : ℕ). gathered c.args.gathering.now c.args.stripe k (m.rows slab) (m.words slab) (m.at slab) (length slots) (length sheet) in
-    (sym (tallied_none answers), sym (elements_none answers c.args.stripe slots), sym (records_none answers sheet), refl, refl, refl, refl)
+    let d = c.default-tally.ensures in
+    let none : c.default-tally.result ≡ record { good = 0; foreign = 0; bad = 0 } = λ i. record { good = d.0 i; foreign = d.1.0 i; bad = d.1.1 i } in
+    (none ∙ sym (tallied_none answers), sym (elements_none answers c.args.stripe slots), sym (records_none answers sheet), refl, refl, refl, refl)
 
 pub told-tally-requires : goal.told-tally-requires
 told-tally-requires g c =
@@ -37,7 +39,7 @@ loop-column-preserved g c =
     let e = c.gather-answer.ensures in
     let said : c.gather-answer.result ≡ answers n =
     e.answer ∙ ap₂ (λ (x y : ℕ). gathered c.args.gathering.now c.args.stripe n (m.rows slab) (m.words slab) (m.at slab) x y) i.3 i.4 in (
-      c.told-tally.ensures ∙ tallied_more answers n c.loop-column.tally c.gather-answer.result c.kind_of.result i.0 said c.kind_of.ensures,
+      c.told-tally.ensures ∙ tallied_more answers n c.loop-column.tally c.gather-answer.result c.from.result i.0 said c.from.ensures,
       e.table ∙ ap₂ (λ r s. settled r s (elements_after c.args.stripe n s)) said i.1 ∙ sym (elements_more answers c.args.stripe n slots),
       e.sheet ∙ ap₂ (λ r s. settled r s (sheet_after n s)) said i.2 ∙ sym (records_more answers n sheet),
       ap length e.table ∙ elements_length c.gather-answer.result c.args.stripe n _ ∙ i.3,

@@ -15,8 +15,6 @@ returns-in_err-block g c =
     ∙ sym c.block_for.ensures.answer ∙ c.in_err-block.was in
     record {
       answer = search rules;
-      rows = search rules;
-      words = search rules;
       kept = g.R.Raster.still c.args.slab.now;
       after = λ i j hi hj. sym (ap (λ p. placed_at p at c.args.column i j) refused);
       reads = search rules;

@@ -5,8 +5,8 @@ use Rattle.slots.proofs.table.Table.offer.Goals as goal
 
 pub returns : goal.returns
 returns g c =
-    let same = g.V.Exact.same in
-    let exact = g.V.Exact.exact in
+    let same = g.V.PartialEq.eq in
+    let exact = g.met.V.Exact.exact in
     let old = c.args.self.now.slots.now in
     let new = c.offer_at.new.slots in
     let e = c.offer_at.ensures in

@@ -1,0 +1,45 @@
+// The whole picture: begun, and gathered from its three slabs.
+ghost use Rattle.std.specs.Prelude.{◌≡◌, length, is_ok, if◌then◌else◌, Ok};
+ghost use Rattle.slots.specs.Slots.{cleared};
+ghost use Rattle.extractor.specs.Gather.{starting};
+ghost use Rattle.bench.specs.Gather.{bench_picture, tallies_in, table_of, sheet_of};
+
+use crate::Slabs;
+use crate::gather::gather_slab;
+use extractor::{Gathering, start};
+use fault::Fault;
+use record::Record;
+use slots::{Slot, Table};
+use tally::Tally;
+
+// The number of the bench format, as `start` takes it.
+const BENCH: u32 = 4;
+
+// Begins to gather the picture that starts at reference 0, with a cleared table of elements.
+pub fn start_picture(table: &mut Table<'_, u32>) -> Result<Gathering, Fault>
+    ensures answer { result ≡ starting 4 0 (length table.old.slots.now) }
+    ensures bench { length table.old.slots.now ≡ 135 → result ≡ Ok bench_picture }
+    ensures table { table.new.slots.now ≡ (if is_ok result then cleared table.old.slots.now else table.old.slots.now) }
+    ensures name { table.new.slots.ghost_name ≡ table.old.slots.ghost_name }
+{
+    start(BENCH, 0, table)
+}
+
+// Gathers the macroblocks in order of position, and counts what came of each stripe. The sheet serves one stripe after the other.
+pub fn gather_picture(
+    gathering: &Gathering,
+    slabs: &mut Slabs,
+    table: &mut Table<'_, u32>,
+    sheet: &mut [Slot<Record>],
+) -> [Tally; 3]
+    ensures tallies { result ≡ tallies_in gathering.now slabs.old.first.items slabs.old.second.items slabs.old.third.items (length table.old.slots.now) (length sheet.old) }
+    ensures table { table.new.slots.now ≡ table_of gathering.now slabs.old.first.items slabs.old.second.items slabs.old.third.items (length sheet.old) table.old.slots.now }
+    ensures sheet { sheet.new ≡ sheet_of gathering.now slabs.old.first.items slabs.old.second.items slabs.old.third.items (length table.old.slots.now) sheet.old }
+    ensures slabs { (slabs.new.first.items ≡ slabs.old.first.items) × ((slabs.new.second.items ≡ slabs.old.second.items) × (slabs.new.third.items ≡ slabs.old.third.items)) }
+    ensures name { table.new.slots.ghost_name ≡ table.old.slots.ghost_name }
+{
+    let first = gather_slab(gathering, 0, &mut slabs.first, table, sheet);
+    let second = gather_slab(gathering, 1, &mut slabs.second, table, sheet);
+    let third = gather_slab(gathering, 2, &mut slabs.third, table, sheet);
+    [first, second, third]
+}

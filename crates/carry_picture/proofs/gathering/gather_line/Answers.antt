@@ -1,0 +1,20 @@
+-- No stripe has more than 45 accepted gathers.
+use Rattle.std.proofs.Common.{length, arith}
+use Rattle.bench.proofs.Gathers.{few_good}
+use Rattle.carry_picture.proofs.gathering.gather_line.Goals as goal
+
+pub overflow_add-gathered : goal.overflow_add-gathered
+overflow_add-gathered c =
+    let s = c.args.slabs.now in
+    let g = c.in_ok-gathering.gathering in
+    let slots = length c.start_picture.new.table.slots.now in
+    let sheet = length c.args.sheet.now in
+    rw c.gather_picture.ensures.tallies (omega (arith, c.requires, few_good g 0 s.first.items slots sheet, few_good g 1 s.second.items slots sheet))
+
+pub overflow_add-gathered-2 : goal.overflow_add-gathered-2
+overflow_add-gathered-2 c =
+    let s = c.args.slabs.now in
+    let g = c.in_ok-gathering.gathering in
+    let slots = length c.start_picture.new.table.slots.now in
+    let sheet = length c.args.sheet.now in
+    rw c.gather_picture.ensures.tallies (omega (arith, c.requires, few_good g 0 s.first.items slots sheet, few_good g 1 s.second.items slots sheet, few_good g 2 s.third.items slots sheet))

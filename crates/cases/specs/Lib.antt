@@ -1,0 +1,5 @@
+pub mod Answers
+pub mod Digits
+pub mod Numbers
+pub mod Text
+pub mod Words
