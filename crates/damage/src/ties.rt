@@ -1,6 +1,6 @@
 // The calls as steps of a run. Each function makes one call, and its contract says that what the call promises, of any raster, is the step
-// of every chain that it could be made in. The call itself stands alone in a function below, which the check proves with no answer of ours,
-// so that a wrong call is refused there.
+// of every chain that it could be made in. Where this takes an answer of ours, the call itself stands alone in a function below, which the
+// check proves with none, so that a wrong call is refused there.
 ghost use Rattle.std.specs.Prelude.{◌≡◌, ℕ, ◌<◌, length};
 ghost use Rattle.block.specs.Slab.{done};
 ghost use Rattle.format.specs.Formats.{next_first};
@@ -9,7 +9,7 @@ ghost use Rattle.image.specs.Image.{sealing, overwritten, done as doneImage};
 ghost use Rattle.inserter.specs.Place.{placing, placed_at};
 ghost use Rattle.extractor.specs.Gather.{starting, gathered};
 ghost use Rattle.extractor.specs.Delivery.{delivering};
-ghost use Rattle.damage.specs.Ties.{grid_of, StepsMakeARun, IsImage, PlaceStep, GatherStep, StartStep, DeliverStep, SealStep, OpenStep, CloseStep, Places, Gathers, Seals};
+ghost use Rattle.damage.specs.Ties.{grid_of, StepsMakeARun, IsImage, PlaceStep, GatherStep, StartStep, DeliverStep, SealStep, OpenStep, CloseStep, Places, Gathers};
 
 use extractor::{Gathering, deliver, start};
 use fault::Fault;
@@ -145,12 +145,6 @@ fn deliver_into(table: &Table<'_, u32>, image: &mut SealedImage) -> Result<(), F
 pub fn seal_in_run(data: &[u8], image: &mut SealedImage) -> Result<(), Fault>
     ensures answer { result ≡ doneImage (sealing «data».now) }
     ensures step { SealStep «data».now image.old.bytes image.new.bytes result }
-{
-    seal_into(data, image)
-}
-
-fn seal_into(data: &[u8], image: &mut SealedImage) -> Result<(), Fault>
-    ensures { Seals «data».now image.old.bytes image.new.bytes result }
 {
     image.seal(data)
 }
