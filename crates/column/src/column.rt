@@ -150,14 +150,11 @@ impl<R: Raster> Seen<'_, R> {
         requires { row < 16 }
         ensures { result ≡ Ok (row_of (R.Raster.at self.now.slab.now) self.now.window row) }
     {
-        let mut value = 0u16;
-        for k in 0..16 {
-            value = self.bit(row, k, value)?;
-        }
-        Ok(value)
+        (0..16).try_fold(0, |before, k| self.bit(row, k, before))
     }
 
     // The bits before bit k, and that bit after them: two looks.
+    #[tactic(auto, using(crate::proofs::Spelled::spelled_more, crate::proofs::Spelled::spelled_below))]
     fn bit(&self, row: usize, k: usize, before: u16) -> Result<u16, Fault>
         requires { (row < 16) × ((k < 16) × (before ≡ spelled (R.Raster.at self.now.slab.now (self.now.window.row + row)) self.now.window.word k)) }
         ensures { result ≡ Ok (spelled (R.Raster.at self.now.slab.now (self.now.window.row + row)) self.now.window.word (k + 1)) }
