@@ -73,6 +73,7 @@ fn embed_rows<R: Raster>(slab: &mut R, window: Window, rows: &[u16; 16]) -> Resu
     ensures kept { R.Raster.kept slab.old slab.new }
     ensures after { (i j : ℕ) → i < R.Raster.rows slab.old → j < R.Raster.words slab.old → R.Raster.at slab.new i j ≡ rows_to (R.Raster.at slab.old) window rows.now 16 i j }
 {
+    // By try_for_each the proof does not close, here and below: it does not know what a closure leaves in a slab that is lent to it.
     for (row, value) in rows.iter().enumerate() {
         embed_row(slab, window, row, *value)?;
     }
@@ -139,6 +140,7 @@ impl<R: Raster> Seen<'_, R> {
         ensures { result ≡ Ok (rows_of (R.Raster.at self.now.slab.now) self.now.window) }
     {
         let mut rows = [0u16; 16];
+        // By try_from_fn the proof does not close: it does not say that the closure which answered is the one that was passed.
         for (i, row) in rows.iter_mut().enumerate() {
             *row = self.row(i)?;
         }
