@@ -2,9 +2,6 @@
 ghost use Rattle.std.specs.Prelude.{◌≡◌, ◌+◌, ◌*◌, ◌<◌, slice_index};
 ghost use Rattle.image.specs.Elements.{element_of, elements_of, byte_of, joined, JoiningUndoes, TakingUndoes};
 
-// How many elements an image has.
-pub(crate) const ELEMENTS: usize = 135;
-
 // The image that elements join to. Taking it apart gives them back, and joining the elements of any 540 bytes gives those back.
 pub fn join(elements: &[u32; 135]) -> [u8; 540]
     ensures bytes { result ≡ joined elements.now }
