@@ -7,10 +7,8 @@ ghost use Rattle.block.specs.Code.{encoded, decoded, WellFormed, NoneNear, OnlyT
 
 use crc::{fits, with_check};
 use fault::Fault;
+use format::LAST_REFERENCE;
 use record::{Block, block_of, data_rows, has_sync, reserved_clear};
-
-// The largest reference: references count modulo 65521.
-const LAST_REFERENCE: u16 = 65520;
 
 // The rows of a block. Decoding gives the block back, or refuses with 16 if its reference exceeds 65520.
 pub fn encode(block: &Block) -> Result<[u16; 16], Fault>

@@ -73,6 +73,7 @@ fn embed_rows<R: Raster>(slab: &mut R, window: Window, rows: &[u16; 16]) -> Resu
     ensures kept { R.Raster.kept slab.old slab.new }
     ensures after { (i j : ℕ) → i < R.Raster.rows slab.old → j < R.Raster.words slab.old → R.Raster.at slab.new i j ≡ rows_to (R.Raster.at slab.old) window rows.now 16 i j }
 {
+    // By try_for_each the proof does not close, here and below: it does not know what a closure leaves in a slab that is lent to it.
     for (row, value) in rows.iter().enumerate() {
         embed_row(slab, window, row, *value)?;
     }
@@ -139,6 +140,7 @@ impl<R: Raster> Seen<'_, R> {
         ensures { result ≡ Ok (rows_of (R.Raster.at self.now.slab.now) self.now.window) }
     {
         let mut rows = [0u16; 16];
+        // By try_from_fn the proof does not close: it does not say that the closure which answered is the one that was passed.
         for (i, row) in rows.iter_mut().enumerate() {
             *row = self.row(i)?;
         }
@@ -150,14 +152,11 @@ impl<R: Raster> Seen<'_, R> {
         requires { row < 16 }
         ensures { result ≡ Ok (row_of (R.Raster.at self.now.slab.now) self.now.window row) }
     {
-        let mut value = 0u16;
-        for k in 0..16 {
-            value = self.bit(row, k, value)?;
-        }
-        Ok(value)
+        (0..16).try_fold(0, |before, k| self.bit(row, k, before))
     }
 
     // The bits before bit k, and that bit after them: two looks.
+    #[tactic(auto, using(crate::proofs::Spelled::spelled_more, crate::proofs::Spelled::spelled_below))]
     fn bit(&self, row: usize, k: usize, before: u16) -> Result<u16, Fault>
         requires { (row < 16) × ((k < 16) × (before ≡ spelled (R.Raster.at self.now.slab.now (self.now.window.row + row)) self.now.window.word k)) }
         ensures { result ≡ Ok (spelled (R.Raster.at self.now.slab.now (self.now.window.row + row)) self.now.window.word (k + 1)) }

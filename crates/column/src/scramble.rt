@@ -11,11 +11,11 @@ pub fn scrambled_bit(chroma: u16, luma: u16, bit: bool) -> bool
     (u32::from(bit) + word_parity(chroma) + word_parity(luma)) % 2 == 1
 }
 
-// The bit that the chroma word carries.
+// The bit that the chroma word carries: what its own bit 0 is scrambled to, since to scramble twice undoes it.
 pub fn carried_bit(chroma: u16, luma: u16) -> bool
     ensures { result ≡ is_one (unscrambled chroma luma) }
 {
-    (u32::from(chroma % 2) + word_parity(chroma) + word_parity(luma)) % 2 == 1
+    scrambled_bit(chroma, luma, chroma % 2 == 1)
 }
 
 fn word_parity(word: u16) -> u32

@@ -38,20 +38,21 @@ fn is_fitting(rows: &[u16; 16]) -> bool
     spelled_check(rows) == check(&rows[0..14])
 }
 
-// The number that the last two rows spell. The library puts numbers together from bytes alone, not from rows.
+// The number that the last two rows spell, by shifts: the library joins bytes alone, not rows.
 fn spelled_check(rows: &[u16; 16]) -> u32
     ensures { result ≡ spelled_at rows.now 14 }
 {
-    u32::from(rows[14]) * 65536 + u32::from(rows[15])
+    u32::from(rows[14]) << 16 | u32::from(rows[15])
 }
 
+// The rows and their check, parted by shifts: the library parts a number into bytes alone, not rows.
 fn checked(rows: &[u16; 14]) -> [u16; 16]
     ensures { result ≡ with_check rows.now }
 {
     let check = check(rows);
     let mut block = [0; 16];
-    block[14] = (check / 65536) as u16;
-    block[15] = (check % 65536) as u16;
+    block[14] = (check >> 16) as u16;
+    block[15] = (check & 0xffff) as u16;
     block[0..14].copy_from_slice(rows);
     block
 }

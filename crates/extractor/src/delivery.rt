@@ -1,5 +1,6 @@
 // Delivering a picture's image.
-ghost use Rattle.std.specs.Prelude.{◌≡◌, ℕ, ◌<◌, List, map, length, is_ok, Ok, Decides};
+ghost use Rattle.std.specs.Prelude.{◌≡◌, ℕ, ◌<◌, List, map, length, is_ok, Ok, Decides, slice_index_or};
+ghost use Rattle.slots.specs.declared.slot.Slot.TheVariants.{Empty};
 ghost use Rattle.image.specs.Image.{done, overwritten};
 ghost use Rattle.image.specs.Elements.{elements_of, joined};
 ghost use Rattle.extractor.specs.Delivery.{held_in, collected, delivering, Whole};
@@ -42,20 +43,22 @@ fn collect(table: &Table<'_, u32>) -> Result<[u32; 135], Fault>
     if let Some(slot) = table.lowest(State::Disputed) {
         return Err(Fault::DisputedSlot(slot));
     }
-    elements_in(table)
+    Ok(elements_in(table))
 }
 
 // What the slots hold, each of which holds an element.
-fn elements_in(table: &Table<'_, u32>) -> Result<[u32; 135], Fault>
+fn elements_in(table: &Table<'_, u32>) -> [u32; 135]
     requires { length table.now.slots.now ≡ 135 }
-    ensures { result ≡ Ok (map held_in table.now.slots.now) }
+    ensures { result ≡ map held_in table.now.slots.now }
 {
-    let mut elements = [0; 135];
-    // A table answers one slot at a time, and may refuse.
-    for (i, element) in elements.iter_mut().enumerate() {
-        *element = held_in(table.slot(i)?);
-    }
-    Ok(elements)
+    std::array::from_fn(|i| element_at(table, i))
+}
+
+fn element_at(table: &Table<'_, u32>, i: usize) -> u32
+    requires { i < length table.now.slots.now }
+    ensures { result ≡ held_in (slice_index_or table.now.slots.now i Empty) }
+{
+    held_in(table.slot(i).unwrap())
 }
 
 // The element that a slot holds; none is 0.

@@ -6,5 +6,5 @@ mod place;
 mod table;
 
 pub use laws::every_element_has_its_carriers;
-pub use place::{ELEMENTS, first_reference};
+pub use place::{ELEMENTS, LAST_REFERENCE, first_reference};
 pub use table::Format;

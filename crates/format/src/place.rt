@@ -8,17 +8,17 @@ use fault::Fault;
 // The elements of an image.
 pub const ELEMENTS: usize = 135;
 
-// References go from 0 to 65520, and on from 0 again.
-const REFERENCES: usize = 65521;
+// References go from 0 to the last one, and on from 0 again.
+pub const LAST_REFERENCE: u16 = 65520;
 
-const LAST_REFERENCE: u32 = 65520;
+const REFERENCES: usize = 65521;
 
 // The first reference of a picture, of that number. Refuses one above 65520.
 pub fn first_reference(number: u32) -> Result<u16, Fault>
     ensures answer { result ≡ first_of number }
     ensures small { IfOk result (λ first. first ≤ 65520) }
 {
-    if number > LAST_REFERENCE {
+    if number > u32::from(LAST_REFERENCE) {
         return Err(Fault::FirstReference);
     }
     Ok(number as u16)

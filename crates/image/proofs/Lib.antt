@@ -1,3 +1,4 @@
+pub mod Made
 mod Rows
 pub mod Spelled
 pub mod Sealing

@@ -2,9 +2,6 @@
 ghost use Rattle.std.specs.Prelude.{◌≡◌, ◌+◌, ◌*◌, ◌<◌, slice_index};
 ghost use Rattle.image.specs.Elements.{element_of, elements_of, byte_of, joined, JoiningUndoes, TakingUndoes};
 
-// How many elements an image has.
-pub(crate) const ELEMENTS: usize = 135;
-
 // The image that elements join to. Taking it apart gives them back, and joining the elements of any 540 bytes gives those back.
 pub fn join(elements: &[u32; 135]) -> [u8; 540]
     ensures bytes { result ≡ joined elements.now }
@@ -18,11 +15,7 @@ pub fn join(elements: &[u32; 135]) -> [u8; 540]
 fn bytes_of(elements: &[u32; 135]) -> [u8; 540]
     ensures { result ≡ joined elements.now }
 {
-    let mut bytes = [0; 540];
-    for (k, byte) in bytes.iter_mut().enumerate() {
-        *byte = byte_of(elements, k);
-    }
-    bytes
+    std::array::from_fn(|k| byte_of(elements, k))
 }
 
 // Byte k of the image: of element k / 4, byte k % 4, the high one first.
@@ -38,11 +31,7 @@ pub(crate) fn elements_of(bytes: &[u8; 540]) -> [u32; 135]
     ensures elements { result ≡ elements_of bytes.now }
     ensures back { joined result ≡ bytes.now }
 {
-    let mut elements = [0; 135];
-    for (i, element) in elements.iter_mut().enumerate() {
-        *element = element_of(bytes, i);
-    }
-    elements
+    std::array::from_fn(|i| element_of(bytes, i))
 }
 
 // Element i.

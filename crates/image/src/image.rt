@@ -3,11 +3,12 @@ ghost use Rattle.std.specs.Prelude.{◌≡◌};
 ghost use Rattle.image.specs.Image.{done, overwritten, judged, Sealed, sealing, receiving, blank_image, Blank, Samples, is_frame, is422, top_field_first_of, repeat_first_field_of, q_scale_type_of};
 ghost use Rattle.image.specs.Elements.{element_at, elements_of, joined};
 
-use crate::elements::{ELEMENTS, element_of, elements_of};
+use crate::elements::{element_of, elements_of};
 use crate::judge::{blank_image, check_image, sealed};
 use crate::table::Name;
 use crate::value::value;
 use fault::Fault;
+use format::ELEMENTS;
 
 // Nothing but seal and receive writes one, and only on acceptance.
 #[derive(Clone, Copy, PartialEq, Eq)]

@@ -22,11 +22,7 @@ fn spelled(bytes: &[u8; 540], first: usize, width: usize) -> u64
     requires { (first + width ≤ 4320) × (width ≤ 41) }
     ensures { result ≡ spelledBits bytes.now first width }
 {
-    let mut number = 0;
-    for n in 0..width {
-        number = number * 2 + bit(bytes, first + n);
-    }
-    number
+    (0..width).fold(0, |number, n| number * 2 + bit(bytes, first + n))
 }
 
 // A bit. Bit 0 is the most significant of byte 0.

@@ -71,10 +71,11 @@ fn reference_of(rows: &[u16; 14]) -> u16
     rows[1]
 }
 
+// Element, by shifts: the library joins bytes alone, not rows.
 fn element_of(rows: &[u16; 14]) -> u32
     ensures { result ≡ found rows.now Element }
 {
-    u32::from(rows[2]) * 65536 + u32::from(rows[3])
+    u32::from(rows[2]) << 16 | u32::from(rows[3])
 }
 
 #[tactic(auto, using(crate::proofs::Signs::casts))]

@@ -92,19 +92,19 @@ impl Fitted<'_> {
         self.block.reference
     }
 
-    // Row 2: the upper 16 bits of element. That element has no more than 32 is said here, where it is read.
+    // Row 2: the upper 16 bits of element, by shifts: the library parts a number into bytes alone, not rows. That element has no more than 32 is said here, where it is read.
     fn row_2(&self) -> u16
         ensures value { result ≡ row_of self.now.block.now 2 }
         ensures narrow { self.now.block.now.element < 2 ^ 32 }
     {
-        (self.block.element / 65536) as u16
+        (self.block.element >> 16) as u16
     }
 
     // Row 3: the lower 16 bits of element.
     fn row_3(&self) -> u16
         ensures { result ≡ row_of self.now.block.now 3 }
     {
-        (self.block.element % 65536) as u16
+        (self.block.element & 0xffff) as u16
     }
 
     // Row 4: mv000 13, motion_type 2, skipped_mb 1.

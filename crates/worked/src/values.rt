@@ -34,16 +34,13 @@ fn scrambled_by_both_parities(rt: HostRuntime) -> Result<(), Fail> {
 }
 
 // Chroma words of 512, in cells whose upper six bits are ones, and luma words of 64.
-fn fill(memory: &mut [u16]) {
-    for (i, cell) in memory.iter_mut().enumerate() {
-        *cell = if i % 2 == 0 { 0xfc00 + 512 } else { 64 };
-    }
+fn filled() -> [u16; 512] {
+    std::array::from_fn(|i| if i % 2 == 0 { 0xfc00 + 512 } else { 64 })
 }
 
 #[test]
 fn ones_through_a_column(rt: HostRuntime) -> Result<(), Fail> {
-    let mut memory = [0u16; 512];
-    fill(&mut memory);
+    let mut memory = filled();
     let mut slab = WordBuffer::new(
         Extent {
             rows: 16,

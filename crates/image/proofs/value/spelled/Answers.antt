@@ -1,18 +1,23 @@
-use Rattle.std.proofs.Common.{◌+◌, ◌<◌, sym, arith}
-use Rattle.image.specs.Value.{bit_of}
+use Rattle.std.proofs.Common.{◌≡◌, ℕ, List, sym, refl, arith, rules, Bor}
+use Rattle.fault.proofs.Turns.{callable, drained}
+use Rattle.image.specs.Value.{spelled}
 use Rattle.image.proofs.Spelled.{spelled_none, spelled_more, spelled_fits}
 use Rattle.image.proofs.value.spelled.Goals as goal
 
-pub loop-n-init : goal.loop-n-init
-loop-n-init c = sym (spelled_none c.args.bytes.now c.args.first)
+-- after n turns the number is what the first n bits spell
+abbrev Spelt : List ℕ → ℕ → ℕ → (Bor (List ℕ) × Bor ℕ) × ℕ → Type 0
+Spelt bytes first n p = (p.0.0.now ≡ bytes) × (p.0.1.now ≡ first) × (p.1 ≡ spelled bytes first n)
 
-pub overflow_mul-number : goal.overflow_mul-number
-overflow_mul-number c = omega (arith, spelled_fits c.args.bytes.now c.args.first c.loop-n.n (omega arith))
+pub fold-requires-clause-callable : goal.fold-requires-clause-callable
+fold-requires-clause-callable c =
+    let bytes = c.args.bytes.now in
+    let first = c.args.first in
+    callable _ (Spelt bytes first) c.args.width (λ k p q h j t. let more = spelled_more bytes first k in search rules) _ (λ k p h j. let fits = spelled_fits bytes first k (omega arith) in search rules) _
+    (refl, refl, sym (spelled_none bytes first))
 
-pub overflow_add-number : goal.overflow_add-number
-overflow_add-number c =
-    let b : bit_of c.args.bytes.now (c.args.first + c.loop-n.n) < 2 = omega arith in
-    omega (arith, spelled_fits c.args.bytes.now c.args.first c.loop-n.n (omega arith))
-
-pub loop-n-preserved : goal.loop-n-preserved
-loop-n-preserved c = let e = spelled_more c.args.bytes.now c.args.first c.loop-n.n in omega arith
+pub returns : goal.returns
+returns c =
+    let bytes = c.args.bytes.now in
+    let first = c.args.first in
+    let ran = c.fold.ensures.ran in
+    (drained _ (Spelt bytes first) c.args.width (λ k p q h j t. let more = spelled_more bytes first k in search rules) ran.0 _ (ran.1, c.fold.result) (refl, refl, sym (spelled_none bytes first)) ran.2 ran.3).2
