@@ -17,4 +17,4 @@ pub use line::StripeLine;
 pub use moved::count_moved;
 pub use picture::{gather_picture, start_picture};
 pub use slab::slab_in;
-pub use slabs::Slabs;
+pub use slabs::{Slab, Slabs};

@@ -15,8 +15,8 @@ pub(crate) fn gather_line(
     sheet: &mut [Slot<Record>],
 ) -> Result<PictureLine, Fault>
     requires { (length slots.old ≡ 135) × (length sheet.old ≡ 45) }
-    ensures answer { result ≡ Ok (gathered_of slabs.old.first.items slabs.old.second.items slabs.old.third.items) }
-    ensures slabs { (slabs.new.first.items ≡ slabs.old.first.items) × ((slabs.new.second.items ≡ slabs.old.second.items) × (slabs.new.third.items ≡ slabs.old.third.items)) }
+    ensures answer { result ≡ Ok (gathered_of slabs.old.first.bytes.items slabs.old.second.bytes.items slabs.old.third.bytes.items) }
+    ensures slabs { (slabs.new.first.bytes.items ≡ slabs.old.first.bytes.items) × ((slabs.new.second.bytes.items ≡ slabs.old.second.bytes.items) × (slabs.new.third.bytes.items ≡ slabs.old.third.bytes.items)) }
 {
     let mut table = Table::new(slots);
     let gathering = start_picture(&mut table)?;

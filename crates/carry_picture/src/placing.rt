@@ -21,9 +21,9 @@ const COLUMNS: usize = 45;
 // Places a record of zeros on every macroblock of a picture of three slabs, under the blank image.
 pub(crate) fn place_picture(slabs: &mut Slabs) -> Result<(), Fault>
     ensures answer { result ≡ Ok tt }
-    ensures first { LadenSlab 0 slabs.old.first.items slabs.new.first.items }
-    ensures second { LadenSlab 1 slabs.old.second.items slabs.new.second.items }
-    ensures third { LadenSlab 2 slabs.old.third.items slabs.new.third.items }
+    ensures first { LadenSlab 0 slabs.old.first.bytes.items slabs.new.first.bytes.items }
+    ensures second { LadenSlab 1 slabs.old.second.bytes.items slabs.new.second.bytes.items }
+    ensures third { LadenSlab 2 slabs.old.third.bytes.items slabs.new.third.bytes.items }
 {
     let image = blank_image();
     let mut inserter = Inserter::new(BENCH, 0)?;
@@ -38,9 +38,9 @@ fn place_stripes(picture: &Picture<'_>, image: &SealedImage, slabs: &mut Slabs) 
     requires picture { (picture.now.format ≡ Bench) × (picture.now.first ≡ 0) }
     requires image { (image.now.bytes ≡ blank) × (is_frame image.now.bytes ≡ true) }
     ensures answer { result ≡ Ok tt }
-    ensures first { LadenSlab 0 slabs.old.first.items slabs.new.first.items }
-    ensures second { LadenSlab 1 slabs.old.second.items slabs.new.second.items }
-    ensures third { LadenSlab 2 slabs.old.third.items slabs.new.third.items }
+    ensures first { LadenSlab 0 slabs.old.first.bytes.items slabs.new.first.bytes.items }
+    ensures second { LadenSlab 1 slabs.old.second.bytes.items slabs.new.second.bytes.items }
+    ensures third { LadenSlab 2 slabs.old.third.bytes.items slabs.new.third.bytes.items }
 {
     Stripe {
         picture,

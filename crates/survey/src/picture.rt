@@ -17,8 +17,8 @@ pub(crate) fn survey_picture(
     sheet: &mut [Slot<Record>],
 ) -> Result<Survey, Fault>
     requires { (length slots.old ≡ 135) × (length sheet.old ≡ 45) }
-    ensures answer { result ≡ Ok (surveyed slabs.old.first.items slabs.old.second.items slabs.old.third.items) }
-    ensures slabs { (slabs.new.first.items ≡ slabs.old.first.items) × ((slabs.new.second.items ≡ slabs.old.second.items) × (slabs.new.third.items ≡ slabs.old.third.items)) }
+    ensures answer { result ≡ Ok (surveyed slabs.old.first.bytes.items slabs.old.second.bytes.items slabs.old.third.bytes.items) }
+    ensures slabs { (slabs.new.first.bytes.items ≡ slabs.old.first.bytes.items) × ((slabs.new.second.bytes.items ≡ slabs.old.second.bytes.items) × (slabs.new.third.bytes.items ≡ slabs.old.third.bytes.items)) }
 {
     let mut table = Table::new(slots);
     let gathering = start_picture(&mut table)?;
@@ -32,8 +32,8 @@ fn survey_stripes(
     sheet: &mut [Slot<Record>],
 ) -> Survey
     requires { (length table.old.slots.now ≡ 135) × (length sheet.old ≡ 45) }
-    ensures answer { result ≡ surveyed_by gathering.now slabs.old.first.items slabs.old.second.items slabs.old.third.items table.old.slots.now }
-    ensures slabs { (slabs.new.first.items ≡ slabs.old.first.items) × ((slabs.new.second.items ≡ slabs.old.second.items) × (slabs.new.third.items ≡ slabs.old.third.items)) }
+    ensures answer { result ≡ surveyed_by gathering.now slabs.old.first.bytes.items slabs.old.second.bytes.items slabs.old.third.bytes.items table.old.slots.now }
+    ensures slabs { (slabs.new.first.bytes.items ≡ slabs.old.first.bytes.items) × ((slabs.new.second.bytes.items ≡ slabs.old.second.bytes.items) × (slabs.new.third.bytes.items ≡ slabs.old.third.bytes.items)) }
     ensures name { table.new.slots.ghost_name ≡ table.old.slots.ghost_name }
 {
     let [first, second, third] = gather_picture(gathering, slabs, table, sheet);

@@ -9,7 +9,7 @@ overflow_add-gathered c =
     let g = c.in_ok-gathering.gathering in
     let slots = length c.start_picture.new.table.slots.now in
     let sheet = length c.args.sheet.now in
-    rw c.gather_picture.ensures.tallies (omega (arith, c.requires, few_good g 0 s.first.items slots sheet, few_good g 1 s.second.items slots sheet))
+    rw c.gather_picture.ensures.tallies (omega (arith, c.requires, few_good g 0 s.first.bytes.items slots sheet, few_good g 1 s.second.bytes.items slots sheet))
 
 pub overflow_add-gathered-2 : goal.overflow_add-gathered-2
 overflow_add-gathered-2 c =
@@ -17,4 +17,4 @@ overflow_add-gathered-2 c =
     let g = c.in_ok-gathering.gathering in
     let slots = length c.start_picture.new.table.slots.now in
     let sheet = length c.args.sheet.now in
-    rw c.gather_picture.ensures.tallies (omega (arith, c.requires, few_good g 0 s.first.items slots sheet, few_good g 1 s.second.items slots sheet, few_good g 2 s.third.items slots sheet))
+    rw c.gather_picture.ensures.tallies (omega (arith, c.requires, few_good g 0 s.first.bytes.items slots sheet, few_good g 1 s.second.bytes.items slots sheet, few_good g 2 s.third.bytes.items slots sheet))
