@@ -1,10 +1,11 @@
 // The picture, carried through its three slabs.
 ghost use Rattle.std.specs.Prelude.{◌≡◌, [], ◌∷◌, Ok};
-ghost use Rattle.carry_picture.specs.Stripe.{line_of, LadenSlab};
+ghost use Rattle.bench.specs.Line.{line_of};
+ghost use Rattle.carry_picture.specs.Stripe.{LadenSlab};
 
+use crate::content::BlankImage;
 use crate::placing::place_picture;
-use crate::reading::stripe_line;
-use bench::{Slabs, StripeLine};
+use bench::{Slabs, Stripe, StripeLine, stripe_line};
 use fault::Fault;
 
 // Places, closes the picture, and then reads every macroblock back: a line for each stripe. The slabs begin as copies of the input, which stays.
@@ -16,8 +17,24 @@ pub(crate) fn carry_picture(input: &mut Slabs, slabs: &mut Slabs) -> Result<[Str
     ensures third { LadenSlab 2 slabs.old.third.bytes.items slabs.new.third.bytes.items }
 {
     place_picture(slabs)?;
-    let first = stripe_line(0, &mut input.first, &mut slabs.first)?;
-    let second = stripe_line(1, &mut input.second, &mut slabs.second)?;
-    let third = stripe_line(2, &mut input.third, &mut slabs.third)?;
+    let image = BlankImage::new();
+    let first = stripe_line(
+        &image,
+        Stripe { number: 0 },
+        &mut input.first,
+        &mut slabs.first,
+    )?;
+    let second = stripe_line(
+        &image,
+        Stripe { number: 1 },
+        &mut input.second,
+        &mut slabs.second,
+    )?;
+    let third = stripe_line(
+        &image,
+        Stripe { number: 2 },
+        &mut input.third,
+        &mut slabs.third,
+    )?;
     Ok([first, second, third])
 }

@@ -11,3 +11,4 @@ pub use alone::place_alone;
 pub use counter::Counter;
 pub use inserter::Inserter;
 pub use picture::Picture;
+pub use place::flags_of;

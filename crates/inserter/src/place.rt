@@ -81,7 +81,7 @@ impl Picture<'_> {
 }
 
 // The flags of every block of a picture with this image.
-fn flags_of(image: &SealedImage) -> PictureFlags
+pub fn flags_of(image: &SealedImage) -> PictureFlags
     ensures { result ≡ flags_of image.now.bytes }
 {
     PictureFlags {
