@@ -2,7 +2,6 @@
 #![tactic(auto)]
 
 mod carry;
-mod empty;
 mod gather;
 mod input;
 mod line;
@@ -13,7 +12,6 @@ mod slabs;
 mod spot;
 
 pub use carry::{Reader, Writer, count_read, stripe_line, write_stripe};
-pub use empty::empty_slots;
 pub use gather::gather_slab;
 pub use input::{pad, read_slab};
 pub use line::StripeLine;
