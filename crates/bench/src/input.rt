@@ -1,7 +1,8 @@
 // Slabs out of standard input.
-ghost use Rattle.std.specs.Prelude.{◌≡◌, is_ok, IfOk, if◌then◌else◌, vec_len};
+ghost use Rattle.std.specs.Prelude.{◌≡◌, is_ok, if◌then◌else◌, vec_len};
 ghost use Rattle.bench.specs.Slab.{padded};
 
+use crate::slabs::Slab;
 use std::alloc::AllocError;
 use std::io;
 use std::io::Read;
@@ -9,13 +10,11 @@ use std::io::Read;
 const SLAB_BYTES: usize = 28800;
 
 // The next slab of standard input.
-pub fn read_slab(rt: &HostRuntime) -> io::Result<Vec<u8>>
-    ensures { IfOk result (λ v. vec_len v ≡ 28800) }
-{
+pub fn read_slab(rt: &HostRuntime) -> io::Result<Slab> {
     let mut bytes = Vec::new(rt.alloc());
     rt.stdin().take(SLAB_BYTES as u64).read_to_end(&mut bytes)?;
     pad(&mut bytes)?;
-    Ok(bytes)
+    Ok(Slab { bytes })
 }
 
 // Makes a slab of bytes: those that are missing count as 0, and those past its end are left out.

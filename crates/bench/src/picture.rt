@@ -32,14 +32,14 @@ pub fn gather_picture(
     table: &mut Table<'_, u32>,
     sheet: &mut [Slot<Record>],
 ) -> [Tally; 3]
-    ensures tallies { result ≡ tallies_in gathering.now slabs.old.first.items slabs.old.second.items slabs.old.third.items (length table.old.slots.now) (length sheet.old) }
-    ensures table { table.new.slots.now ≡ table_of gathering.now slabs.old.first.items slabs.old.second.items slabs.old.third.items (length sheet.old) table.old.slots.now }
-    ensures sheet { sheet.new ≡ sheet_of gathering.now slabs.old.first.items slabs.old.second.items slabs.old.third.items (length table.old.slots.now) sheet.old }
-    ensures slabs { (slabs.new.first.items ≡ slabs.old.first.items) × ((slabs.new.second.items ≡ slabs.old.second.items) × (slabs.new.third.items ≡ slabs.old.third.items)) }
+    ensures tallies { result ≡ tallies_in gathering.now slabs.old.first.bytes.items slabs.old.second.bytes.items slabs.old.third.bytes.items (length table.old.slots.now) (length sheet.old) }
+    ensures table { table.new.slots.now ≡ table_of gathering.now slabs.old.first.bytes.items slabs.old.second.bytes.items slabs.old.third.bytes.items (length sheet.old) table.old.slots.now }
+    ensures sheet { sheet.new ≡ sheet_of gathering.now slabs.old.first.bytes.items slabs.old.second.bytes.items slabs.old.third.bytes.items (length table.old.slots.now) sheet.old }
+    ensures slabs { (slabs.new.first.bytes.items ≡ slabs.old.first.bytes.items) × ((slabs.new.second.bytes.items ≡ slabs.old.second.bytes.items) × (slabs.new.third.bytes.items ≡ slabs.old.third.bytes.items)) }
     ensures name { table.new.slots.ghost_name ≡ table.old.slots.ghost_name }
 {
-    let first = gather_slab(gathering, 0, &mut slabs.first, table, sheet);
-    let second = gather_slab(gathering, 1, &mut slabs.second, table, sheet);
-    let third = gather_slab(gathering, 2, &mut slabs.third, table, sheet);
+    let first = gather_slab(gathering, 0, &mut slabs.first.bytes, table, sheet);
+    let second = gather_slab(gathering, 1, &mut slabs.second.bytes, table, sheet);
+    let third = gather_slab(gathering, 2, &mut slabs.third.bytes, table, sheet);
     [first, second, third]
 }

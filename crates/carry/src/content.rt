@@ -1,15 +1,16 @@
 // The block of each macroblock of the bench picture.
-ghost use Rattle.std.specs.Prelude.{◌≡◌, ℕ, ◌<◌, ◌≤◌};
-ghost use Rattle.carry.specs.Content.{record_at, block_at};
+ghost use Rattle.std.specs.Prelude.{◌≡◌, ◌<◌, ◌≤◌};
+ghost use Rattle.carry.specs.Content.{record_at, block_in};
 
+use bench::Spot;
 use record::{Block, PictureFlags, Record};
 
-// The block at a position: a frame picture, with the position as its reference.
-pub fn block_at(position: usize) -> Block
-    requires { position < 135 }
-    ensures value { result ≡ block_at position }
+// A frame picture, with the position as its reference.
+pub fn block_at(spot: Spot) -> Block
+    ensures value { result ≡ block_in spot.stripe.number spot.column }
     ensures reference { result.reference ≤ 65520 }
 {
+    let position = spot.position();
     Block {
         picture: PictureFlags {
             fr_fl_srib: true,

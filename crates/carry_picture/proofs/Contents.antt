@@ -32,10 +32,10 @@ position_index s c hs hc =
     rw (none, all) (omega arith)
 
 -- a block of these parts is the one that is wanted
-pub block_made : (s c : ℕ) (image : List ℕ) (p : PictureFlags) (e : ℕ) (r : Record) → s < 3 → c < 45 → image ≡ blank → p ≡ flags_of image → e ≡ element_of image (45 * s + c) → r ≡ zero_record → record { picture = p; reference = 45 * s + c; element = e; «record» = r } ≡ block_at s c
+pub block_made : (s c n : ℕ) (image : List ℕ) (p : PictureFlags) (e : ℕ) (r : Record) → s < 3 → c < 45 → n ≡ 45 * s + c → image ≡ blank → p ≡ flags_of image → e ≡ element_of image n → r ≡ zero_record → record { picture = p; reference = n; element = e; «record» = r } ≡ block_at s c
 unfolding block_at
-block_made s c image p e r hs hc ei ep ee er =
-    let n : 45 * s + c ≡ reference_of Bench 0 s c = position_reference s c hs hc in
-    let k : element_of image (45 * s + c) ≡ element_of blank (index_of s c) = ap₂ element_of ei (position_index s c hs hc) in
-    let f : flags_of image ≡ flags_of blank = ap flags_of ei in
-    rw (ep ∙ f, ee ∙ k, er, n)
+block_made s c n image p e r hs hc en ei ep ee er =
+    let reference : n ≡ reference_of Bench 0 s c = en ∙ position_reference s c hs hc in
+    let element : element_of image n ≡ element_of blank (index_of s c) = ap₂ element_of ei (en ∙ position_index s c hs hc) in
+    let flags : flags_of image ≡ flags_of blank = ap flags_of ei in
+    rw (ep ∙ flags, ee ∙ element, er, reference)

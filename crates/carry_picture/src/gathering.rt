@@ -1,28 +1,24 @@
 // Gathering what was placed.
-ghost use Rattle.std.specs.Prelude.{◌≡◌, ◌<◌, length, Ok, count_by};
+ghost use Rattle.std.specs.Prelude.{◌≡◌, Ok, count_by};
 ghost use Rattle.carry_picture.specs.Picture.{is_held, held_in, gathered_of};
 
 use crate::line::PictureLine;
 use bench::{Slabs, gather_picture, start_picture};
 use fault::Fault;
-use record::Record;
 use slots::{Slot, State, Table};
 
 // Gathers the picture that the slabs hold, and counts the gathers that are accepted and the slots that are then held.
-pub(crate) fn gather_line(
-    slabs: &mut Slabs,
-    slots: &mut [Slot<u32>],
-    sheet: &mut [Slot<Record>],
-) -> Result<PictureLine, Fault>
-    requires { (length slots.old ≡ 135) × (length sheet.old ≡ 45) }
-    ensures answer { result ≡ Ok (gathered_of slabs.old.first.items slabs.old.second.items slabs.old.third.items) }
-    ensures slabs { (slabs.new.first.items ≡ slabs.old.first.items) × ((slabs.new.second.items ≡ slabs.old.second.items) × (slabs.new.third.items ≡ slabs.old.third.items)) }
+pub(crate) fn gather_line(slabs: &mut Slabs) -> Result<PictureLine, Fault>
+    ensures answer { result ≡ Ok (gathered_of slabs.old.first.bytes.items slabs.old.second.bytes.items slabs.old.third.bytes.items) }
+    ensures slabs { (slabs.new.first.bytes.items ≡ slabs.old.first.bytes.items) × ((slabs.new.second.bytes.items ≡ slabs.old.second.bytes.items) × (slabs.new.third.bytes.items ≡ slabs.old.third.bytes.items)) }
 {
-    let mut table = Table::new(slots);
+    let mut slots = [Slot::Empty; 135];
+    let mut sheet = [Slot::Empty; 45];
+    let mut table = Table::new(&mut slots);
     let gathering = start_picture(&mut table)?;
-    let [first, second, third] = gather_picture(&gathering, slabs, &mut table, sheet);
+    let [first, second, third] = gather_picture(&gathering, slabs, &mut table, &mut sheet);
     let gathered = first.good + second.good + third.good;
-    let held = count_held(slots);
+    let held = count_held(&slots);
     Ok(PictureLine { gathered, held })
 }
 

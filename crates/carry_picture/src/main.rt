@@ -1,7 +1,7 @@
 // Carries records through a bench picture: places them in three packed slabs, reads them back, gathers them, and says what moved.
 #![tactic(auto)]
 
-use bench::{Slabs, StripeLine, empty_slots};
+use bench::{Slabs, StripeLine};
 use gathering::gather_line;
 use line::PictureLine;
 use picture::carry_picture;
@@ -22,9 +22,7 @@ fn run(rt: &HostRuntime) -> anyhow::Result<()> {
     let mut before = Slabs::read(rt)?;
     let mut after = before.clone()?;
     let carried = carry_picture(&mut before, &mut after)?;
-    let mut slots = empty_slots(rt.alloc(), 135)?;
-    let mut sheet = empty_slots(rt.alloc(), 45)?;
-    let picture = gather_line(&mut after, &mut slots, &mut sheet)?;
+    let picture = gather_line(&mut after)?;
     show(rt, &carried, picture)?;
     save(rt, &after)
 }
@@ -39,9 +37,9 @@ fn show(rt: &HostRuntime, carried: &[StripeLine; 3], picture: PictureLine) -> io
 // With a file name as the argument, the slabs are written there.
 fn save(rt: &HostRuntime, slabs: &Slabs) -> anyhow::Result<()> {
     if let Some(name) = env::args(rt)?.nth(1) {
-        let mut bytes = slabs.first.clone()?;
-        bytes.extend_from_slice(&slabs.second)?;
-        bytes.extend_from_slice(&slabs.third)?;
+        let mut bytes = slabs.first.bytes.clone()?;
+        bytes.extend_from_slice(&slabs.second.bytes)?;
+        bytes.extend_from_slice(&slabs.third.bytes)?;
         fs::write(rt, name.as_str(), bytes.as_slice())?;
     }
     Ok(())

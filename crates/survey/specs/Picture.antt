@@ -5,16 +5,14 @@ use Rattle.slots.specs.declared.slot.Slot.TheVariants.{Empty}
 use Rattle.image.specs.Image.{done}
 use Rattle.extractor.specs.declared.gathering.Gathering.{Gathering}
 use Rattle.extractor.specs.Delivery.{delivering}
-use Rattle.bench.specs.Gather.{bench_picture, tally_in, table_of}
+use Rattle.bench.specs.Gather.{bench_picture, tallies_in, table_of}
 use Rattle.survey.specs.declared.report.Survey.{Survey}
 
 -- what is counted of each stripe, and what deliver answers of the table that they leave
 abbrev pub surveyed_by : Gathering → List ℕ → List ℕ → List ℕ → List (Slot ℕ) → Survey
 surveyed_by g first second third table =
     record {
-      first = tally_in g 0 first 135 45;
-      second = tally_in g 1 second 135 45;
-      third = tally_in g 2 third 135 45;
+      tallies = tallies_in g first second third 135 45;
       delivered = done (delivering (table_of g first second third 45 table));
     }
 

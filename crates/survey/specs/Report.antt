@@ -1,5 +1,5 @@
 -- What is printed of a survey, byte for byte.
-use Rattle.std.specs.Prelude.{ℕ, List, ◌++◌, Ok, Err, codes, decimal, Result}
+use Rattle.std.specs.Prelude.{ℕ, ◌+◌, List, [], ◌∷◌, ◌++◌, Ok, Err, codes, decimal, Result}
 use Rattle.fault.specs.declared.Fault.{Fault}
 use Rattle.fault.specs.Table.{number_of}
 use Rattle.tally.specs.declared.kind.Tally.{Tally}
@@ -12,5 +12,10 @@ abbrev pub picture_text : Result (Unit {0}) Fault → List ℕ
 picture_text (Ok x) = codes "picture whole"
 picture_text (Err fault) = codes "picture refused " ++ decimal (number_of fault)
 
+-- a line for each tally, numbered from this stripe on
+abbrev pub stripes_text : ℕ → List Tally → List ℕ
+stripes_text stripe [] = []
+stripes_text stripe (t ∷ ts) = stripe_text stripe t ++ (codes "\n" ++ stripes_text (stripe + 1) ts)
+
 abbrev pub survey_text : Survey → List ℕ
-survey_text s = stripe_text 0 s.first ++ (codes "\n" ++ (stripe_text 1 s.second ++ (codes "\n" ++ (stripe_text 2 s.third ++ (codes "\n" ++ picture_text s.delivered)))))
+survey_text s = stripes_text 0 s.tallies ++ picture_text s.delivered

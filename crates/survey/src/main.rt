@@ -1,7 +1,7 @@
 // Surveys a bench picture: gathers its three packed slabs, and says what became of each stripe and of the image.
 #![tactic(auto)]
 
-use bench::{Slabs, empty_slots};
+use bench::Slabs;
 use damage::damage_stays_where_it_falls;
 use picture::survey_picture;
 
@@ -15,9 +15,7 @@ fn main(rt: HostRuntime) -> anyhow::Result<()> {
 fn run(rt: &HostRuntime) -> anyhow::Result<()> {
     damage_stays_where_it_falls();
     let mut slabs = Slabs::read(rt)?;
-    let mut slots = empty_slots(rt.alloc(), 135)?;
-    let mut sheet = empty_slots(rt.alloc(), 45)?;
-    let survey = survey_picture(&mut slabs, &mut slots, &mut sheet)?;
+    let survey = survey_picture(&mut slabs)?;
     println!(rt; "{survey}")?;
     Ok(())
 }

@@ -11,18 +11,15 @@ use record::Record;
 use slots::{Slot, Table};
 
 // Gathers the macroblocks in order of position from reference 0, and asks for the image. The sheet serves one stripe after the other.
-pub(crate) fn survey_picture(
-    slabs: &mut Slabs,
-    slots: &mut [Slot<u32>],
-    sheet: &mut [Slot<Record>],
-) -> Result<Survey, Fault>
-    requires { (length slots.old ≡ 135) × (length sheet.old ≡ 45) }
-    ensures answer { result ≡ Ok (surveyed slabs.old.first.items slabs.old.second.items slabs.old.third.items) }
-    ensures slabs { (slabs.new.first.items ≡ slabs.old.first.items) × ((slabs.new.second.items ≡ slabs.old.second.items) × (slabs.new.third.items ≡ slabs.old.third.items)) }
+pub(crate) fn survey_picture(slabs: &mut Slabs) -> Result<Survey, Fault>
+    ensures answer { result ≡ Ok (surveyed slabs.old.first.bytes.items slabs.old.second.bytes.items slabs.old.third.bytes.items) }
+    ensures slabs { (slabs.new.first.bytes.items ≡ slabs.old.first.bytes.items) × ((slabs.new.second.bytes.items ≡ slabs.old.second.bytes.items) × (slabs.new.third.bytes.items ≡ slabs.old.third.bytes.items)) }
 {
-    let mut table = Table::new(slots);
+    let mut slots = [Slot::Empty; 135];
+    let mut sheet = [Slot::Empty; 45];
+    let mut table = Table::new(&mut slots);
     let gathering = start_picture(&mut table)?;
-    Ok(survey_stripes(&gathering, slabs, &mut table, sheet))
+    Ok(survey_stripes(&gathering, slabs, &mut table, &mut sheet))
 }
 
 fn survey_stripes(
@@ -32,16 +29,14 @@ fn survey_stripes(
     sheet: &mut [Slot<Record>],
 ) -> Survey
     requires { (length table.old.slots.now ≡ 135) × (length sheet.old ≡ 45) }
-    ensures answer { result ≡ surveyed_by gathering.now slabs.old.first.items slabs.old.second.items slabs.old.third.items table.old.slots.now }
-    ensures slabs { (slabs.new.first.items ≡ slabs.old.first.items) × ((slabs.new.second.items ≡ slabs.old.second.items) × (slabs.new.third.items ≡ slabs.old.third.items)) }
+    ensures answer { result ≡ surveyed_by gathering.now slabs.old.first.bytes.items slabs.old.second.bytes.items slabs.old.third.bytes.items table.old.slots.now }
+    ensures slabs { (slabs.new.first.bytes.items ≡ slabs.old.first.bytes.items) × ((slabs.new.second.bytes.items ≡ slabs.old.second.bytes.items) × (slabs.new.third.bytes.items ≡ slabs.old.third.bytes.items)) }
     ensures name { table.new.slots.ghost_name ≡ table.old.slots.ghost_name }
 {
-    let [first, second, third] = gather_picture(gathering, slabs, table, sheet);
+    let tallies = gather_picture(gathering, slabs, table, sheet);
     let mut image = SealedImage::blank();
     Survey {
-        first,
-        second,
-        third,
+        tallies,
         delivered: deliver(&*table, &mut image),
     }
 }

@@ -9,9 +9,7 @@ use tally::Tally;
 // The tallies of the three stripes, and what deliver answered.
 #[derive(Clone, Copy)]
 pub struct Survey {
-    pub first: Tally,
-    pub second: Tally,
-    pub third: Tally,
+    pub tallies: [Tally; 3],
     pub delivered: Result<(), Fault>,
 }
 
@@ -59,15 +57,15 @@ impl fmt::Display for Survey {
     fn fmt<W: fmt::Write>(&self, f: &mut fmt::Formatter<W>) -> fmt::Result {
         let first = StripeLine {
             stripe: 0,
-            tally: self.first,
+            tally: self.tallies[0],
         };
         let second = StripeLine {
             stripe: 1,
-            tally: self.second,
+            tally: self.tallies[1],
         };
         let third = StripeLine {
             stripe: 2,
-            tally: self.third,
+            tally: self.tallies[2],
         };
         let picture = PictureLine {
             delivered: self.delivered,

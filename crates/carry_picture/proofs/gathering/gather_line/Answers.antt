@@ -8,13 +8,11 @@ overflow_add-gathered c =
     let s = c.args.slabs.now in
     let g = c.in_ok-gathering.gathering in
     let slots = length c.start_picture.new.table.slots.now in
-    let sheet = length c.args.sheet.now in
-    rw c.gather_picture.ensures.tallies (omega (arith, c.requires, few_good g 0 s.first.items slots sheet, few_good g 1 s.second.items slots sheet))
+    rw c.gather_picture.ensures.tallies (omega (arith, few_good g 0 s.first.bytes.items slots 45, few_good g 1 s.second.bytes.items slots 45))
 
 pub overflow_add-gathered-2 : goal.overflow_add-gathered-2
 overflow_add-gathered-2 c =
     let s = c.args.slabs.now in
     let g = c.in_ok-gathering.gathering in
     let slots = length c.start_picture.new.table.slots.now in
-    let sheet = length c.args.sheet.now in
-    rw c.gather_picture.ensures.tallies (omega (arith, c.requires, few_good g 0 s.first.items slots sheet, few_good g 1 s.second.items slots sheet, few_good g 2 s.third.items slots sheet))
+    rw c.gather_picture.ensures.tallies (omega (arith, few_good g 0 s.first.bytes.items slots 45, few_good g 1 s.second.bytes.items slots 45, few_good g 2 s.third.bytes.items slots 45))

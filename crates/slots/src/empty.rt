@@ -2,7 +2,7 @@
 ghost use Rattle.std.specs.Prelude.{◌≡◌, ℕ, ◌<◌, IfOk, vec_len, slice_index_or};
 ghost use Rattle.slots.specs.declared.slot.Slot.TheVariants.{Empty};
 
-use slots::Slot;
+use crate::Slot;
 use std::alloc::{AllocError, Global};
 
 // So many empty slots from the heap.

@@ -1,0 +1,15 @@
+use Rattle.std.proofs.Common.{rules}
+use Rattle.bench.proofs.Stripes.{none_laden, one_laden}
+use Rattle.bench.proofs.carry.write_columns.Goals as goal
+
+pub loop-column-init : goal.loop-column-init
+loop-column-init g c = (g.R.Raster.still c.args.slab.now, none_laden g.W.Writer.block c.args.stripe.number 1440 (g.R.Raster.at c.args.slab.now))
+
+pub loop-column-preserved : goal.loop-column-preserved
+loop-column-preserved g c =
+    let m = g.R.Raster in
+    let i = c.loop-column.invariant in
+    let w = c.write in (
+      m.onward c.args.slab.now c.loop-column.slab w.new.slab i.0 w.ensures.kept,
+      one_laden g.W.Writer.block c.args.stripe.number 1440 c.loop-column.column (m.at c.args.slab.now) (m.at c.loop-column.slab) (m.at w.new.slab) (search rules) i.1 w.ensures.one,
+    )
