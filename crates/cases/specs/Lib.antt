@@ -1,5 +1,7 @@
 pub mod Answers
 pub mod Digits
 pub mod Numbers
+pub mod Reading
+pub mod Stop
 pub mod Text
 pub mod Words

@@ -4,6 +4,7 @@
 
 mod answers;
 mod digits;
+mod number;
 mod run;
 mod stop;
 mod text;

@@ -1,14 +1,23 @@
 // A program of cases: each line of standard input is one, and its first word is its kind.
+ghost use Rattle.std.specs.Prelude.{List, ℕ, Result};
+ghost use Rattle.std.specs.declared.string.String.{String};
+ghost use Rattle.std.specs.declared.alloc.Global.{Global};
+ghost use Rattle.cases.specs.declared.stop.Stop.{Stop};
 ghost use Rattle.cases.specs.Answers.{Told};
+ghost use Rattle.cases.specs.Words.{left};
 
 use crate::text::Refusal;
 use crate::{Stop, Words};
-use std::alloc::Global;
+use std::alloc::{AllocError, Global};
 use std::io::{BufRead, BufReader};
 
 // What a program answers to the kinds of cases that it knows. It is no closure: who calls one has to ask that it may be called.
 pub trait Kinds {
-    fn answer(&self, heap: Global, kind: &str, case: &mut Words<'_>) -> Result<String, Stop>;
+    // What may be answered to a kind of case and the words after it.
+    ghost answers: { Self → List ℕ → List (List ℕ) → Result (String Global) Stop → Type 0 };
+
+    fn answer(&self, heap: Global, kind: &str, case: &mut Words<'_>) -> Result<String, Stop>
+        ensures { answers self.now kind.now (left case.old) result };
 }
 
 // Prints the answer to each line, up to the first that is no case.
@@ -39,5 +48,6 @@ fn told(heap: Global, answer: Result<String, Stop>) -> anyhow::Result<String>
             Ok(format!(in heap; "{refusal}")?)
         }
         Err(Stop::Broken(error)) => Err(error),
+        Err(Stop::NoMemory) => Err(AllocError.into()),
     }
 }
