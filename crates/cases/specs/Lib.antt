@@ -1,5 +1,6 @@
 pub mod Answers
 pub mod Digits
+pub mod Lines
 pub mod Numbers
 pub mod Reading
 pub mod Stop

@@ -1,13 +1,13 @@
 -- What the library reads of a word as a number is the number that it spells.
-use Rattle.std.specs.Prelude.{◌≡◌, ℕ, ◌+◌, ◌<◌, ◌≤◌, ◌^◌, List, [], ◌∷◌, length, nat_lt, nat_le, Bool, cond, ◌&&◌, true, false, ℤ, pos, negsuc, neg_ℤ, Ok, Err, Result}
+use Rattle.std.specs.Prelude.{◌≡◌, ℕ, ◌<◌, ◌^◌, List, [], ◌∷◌, length, nat_le, Bool, cond, true, false, ℤ, pos, neg_ℤ, Ok, Err, Result}
 use Rattle.std.proofs.Common.{suc, zero, refl, sym, ap, subst, ◌∙◌, arith}
 use Rattle.std.specs.Int.{w16}
 use Rattle.std.specs.Char.{is_digit, digit_value}
 use Rattle.std.specs.List.{list_all}
-use Rattle.std.specs.Str.Parse.{AllDigits, IsNumeral, ParsesUnsigned, ParsesSigned, digits_value, signed_digits_value, without_leading_plus, without_leading_sign, starts_with_minus}
+use Rattle.std.specs.Str.Parse.{AllDigits, IsNumeral, ParsesUnsigned, ParsesSigned, digits_value, without_leading_plus, without_leading_sign, starts_with_minus}
 use mir.Val.{SFits, to_z, of_z}
 use Rattle.std.proofs.lemmas.Int.{to_z-of_z}
-use Rattle.cases.specs.Words.{unsigned, signed, is_numeral, is_number, ReadsNumber}
+use Rattle.cases.specs.Words.{unsigned, signed, is_numeral, ReadsNumber}
 
 digits_pass : (radix : ℕ) (ds : List ℕ) → AllDigits radix ds → list_all (λ d. is_digit d radix) ds ≡ true
 digits_pass radix [] all = refl

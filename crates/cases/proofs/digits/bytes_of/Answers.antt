@@ -1,6 +1,5 @@
 use Rattle.std.proofs.Common.{◌≡◌, ◌%◌, ◌∙◌, ap, subst, sym, true, false, rules, length, refl, arith}
-use Rattle.std.specs.List.{list_all}
-use Rattle.cases.specs.Digits.{is_hex, are_pairs, bytes_in}
+use Rattle.cases.specs.Digits.{are_pairs, bytes_in}
 use Rattle.cases.proofs.Pairs.{bytes_of_all, hex_of_all, not_pairs_at}
 use Rattle.cases.proofs.digits.bytes_of.Goals as goal
 
