@@ -1,3 +1,5 @@
 pub mod Pairs
 pub mod Printing
 pub mod Spelling
+pub mod Cutting
+pub mod Answering

@@ -1,10 +1,10 @@
 -- Bytes out of pairs of digits.
-use Rattle.std.proofs.Common.{◌≡◌, ℕ, ◌+◌, ◌*◌, ◌/◌, ◌%◌, true, ◌≤◌, take, take_all, suc, List, [], ◌∷◌, length, map, refl, sym, ap, ◌∙◌, arith}
+use Rattle.std.proofs.Common.{◌≡◌, ℕ, ◌+◌, ◌*◌, ◌/◌, ◌%◌, true, false, ◌≤◌, ◌<◌, take, take_all, zero, suc, List, [], ◌∷◌, length, map, refl, sym, ap, ◌∙◌, arith}
 use Rattle.std.specs.Simd.{first_chunks}
 use Rattle.std.specs.List.{list_all}
-use Rattle.std.specs.Prelude.{◌&&◌}
+use Rattle.std.specs.Prelude.{◌&&◌, slice_index_or}
 use Rattle.std.proofs.Math.Bool.{and_assoc}
-use Rattle.cases.specs.Digits.{is_hex, hex_pair, hex_value, byte_in, bytes_in}
+use Rattle.cases.specs.Digits.{is_hex, hex_pair, hex_value, are_pairs, byte_in, bytes_in}
 
 half-length : {A : Type 0} (a b : A) (xs : List A) → length (a ∷ b ∷ xs) / 2 ≡ suc (length xs / 2)
 half-length a b xs = omega arith
@@ -36,3 +36,25 @@ hex_of_chunks (high ∷ low ∷ others) even =
 pub hex_of_all : (text : List ℕ) (pairs : List (List ℕ)) (i : ℕ) → length pairs ≤ i → pairs ≡ first_chunks 2 (length text / 2) text → length text % 2 ≡ 0 → list_all hex_pair (take i pairs) ≡ true → list_all is_hex text ≡ true
 hex_of_all text pairs i past front even seen =
     sym (hex_of_chunks text even) ∙ sym (ap (list_all hex_pair) (take_all i pairs past ∙ front)) ∙ seen
+
+-- where a pair is not two digits, not all of the text is digits
+some_not_hex : (text : List ℕ) → list_all hex_pair (first_chunks 2 (length text / 2) text) ≡ false → list_all is_hex text ≡ false
+some_not_hex [] failing = failing
+some_not_hex (half ∷ []) failing = grind arith
+some_not_hex (high ∷ low ∷ others) failing =
+    let cut : (hex_pair (high ∷ low ∷ []) && list_all hex_pair (first_chunks 2 (length others / 2) others)) ≡ false = ap (λ n. list_all hex_pair (first_chunks 2 n (high ∷ low ∷ others))) (sym (half-length high low others)) ∙ failing in
+    elim (list_all hex_pair (first_chunks 2 (length others / 2) others)) as (λ b. list_all hex_pair (first_chunks 2 (length others / 2) others) ≡ b → list_all is_hex (high ∷ low ∷ others) ≡ false) [
+      | true ↦ λ all. grind (arith, cut, all)
+      | false ↦ λ none. grind (arith, some_not_hex others none)
+    ] refl
+
+not_all_pairs : (pairs : List (List ℕ)) (i : ℕ) (d : List ℕ) → i < length pairs → hex_pair (slice_index_or pairs i d) ≡ false → list_all hex_pair pairs ≡ false
+not_all_pairs [] i d inside failing = absurd (omega arith)
+not_all_pairs (pair ∷ pairs) zero d inside failing = grind arith
+not_all_pairs (pair ∷ pairs) (suc i) d inside failing = grind (arith, not_all_pairs pairs i d (omega arith) failing)
+
+-- what a loop that stopped at a pair has seen
+pub not_pairs_at : (text : List ℕ) (pairs : List (List ℕ)) (i : ℕ) (d : List ℕ) → pairs ≡ first_chunks 2 (length text / 2) text → i < length pairs → hex_pair (slice_index_or pairs i d) ≡ false → are_pairs text ≡ false
+not_pairs_at text pairs i d front inside failing =
+    let none = some_not_hex text (sym (ap (list_all hex_pair) front) ∙ not_all_pairs pairs i d inside failing) in
+    grind (arith, none)

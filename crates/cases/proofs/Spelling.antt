@@ -1,70 +1,84 @@
--- What the words of a case spell.
-use Rattle.std.proofs.Common.{◌≡◌, ◌≢◌, ℕ, ◌+◌, ◌<◌, List, [], ◌∷◌, ◌++◌, length, take, ℤ, pos, Ok, false, refl, sym, subst, ap, ◌∙◌, arith}
-use Rattle.std.specs.Prelude.{slice_index, ◌==◌}
-use Rattle.std.specs.Str.Parse.{ParsesUnsigned, ParsesSigned, ExplainsUnsignedError, ExplainsSignedError, HasUnsignedDigitsIfOk, HasSignedDigitsIfOk, AllDigitsAfterFirst, digits_value, without_leading_plus}
-use Rattle.std.specs.declared.num.ParseIntError.{ParseIntError}
-use Rattle.std.proofs.lemmas.Grind.{common_steps}
-use Rattle.std.proofs.lemmas.List.{append_assoc, map-append, take_more_set}
-use Rattle.cases.specs.Words.{in_decimal, Spells}
-use Rattle.std.proofs.lemmas.Int.{to_z-of_z}
+-- What the words of a case spell, part by part.
+use Rattle.std.proofs.Common.{◌≡◌, ℕ, ◌+◌, ◌-◌, ◌<◌, ◌≤◌, List, [], ◌∷◌, ◌++◌, length, take, drop, map, replicate, suc, refl, sym, ap, ◌∙◌, arith, ℤ, pos, true}
+use Rattle.std.specs.Prelude.{◌&&◌, ◌==◌}
+use Rattle.std.proofs.Math.Bool.{and_assoc}
 use Rattle.std.proofs.Math.ListN.{set}
-use mir.Syntax.{Width}
-use mir.Val.{to_z, of_z, SFits}
+use Rattle.std.proofs.lemmas.List.{take_more_set, map-append, append_assoc}
+use Rattle.cases.specs.Words.{Form, unsigned, first, is_number, number_in, Spells, spelt, spelt_whole, numbers_in, words_after, picture_forms, record_forms, block_forms}
 
--- a word of digits has no minus
-not_minus : (word : List ℕ) → AllDigitsAfterFirst (slice_index word 0 ≢ 43) word → (slice_index word 0 == 45) ≡ false
-not_minus word digits = grind (arith, common_steps)
+spelt-append : (fs gs : List Form) (words : List (List ℕ)) → spelt (fs ++ gs) words ≡ spelt fs words && spelt gs (words_after fs words)
+unfolding spelt words_after
+spelt-append [] gs words = refl
+spelt-append (f ∷ fs) gs words = ap (λ b. is_number f (first words) && b) (spelt-append fs gs (drop 1 words)) ∙ sym (and_assoc (is_number f (first words)) (spelt fs (drop 1 words)) _)
 
-spelled_unsigned : (word : List ℕ) (v : ℕ) → AllDigitsAfterFirst (slice_index word 0 ≢ 43) word → v ≡ digits_value 10 (without_leading_plus word) → in_decimal word ≡ pos v
-spelled_unsigned word v digits value =
-    let plain = not_minus word digits in
-    rw plain (ap pos (sym value))
+numbers_in-append : (fs gs : List Form) (words : List (List ℕ)) → numbers_in (fs ++ gs) words ≡ numbers_in fs words ++ numbers_in gs (words_after fs words)
+unfolding numbers_in words_after
+numbers_in-append [] gs words = refl
+numbers_in-append (f ∷ fs) gs words = ap (λ ns. number_in f (first words) ∷ ns) (numbers_in-append fs gs (drop 1 words))
 
--- one word that spells one value
-pub spells_one : {A : Type 0} (spell : List ℕ → A) (before after : List (List ℕ)) (v : A) (word : List ℕ) → before ≡ word ∷ after → spell word ≡ v → Spells spell before (v ∷ []) after
-unfolding Spells
-spells_one spell before after v word taken spelt = (word ∷ [], taken, ap (λ x. x ∷ []) spelt)
+words_after-append : (fs gs : List Form) (words : List (List ℕ)) → words_after (fs ++ gs) words ≡ words_after gs (words_after fs words)
+unfolding words_after
+words_after-append [] gs words = refl
+words_after-append (f ∷ fs) gs words = words_after-append fs gs (drop 1 words)
 
--- what is known of a word that was taken as an unsigned number of so many bits
-abbrev pub TakenUnsigned : ℕ → List (List ℕ) → ℕ → List (List ℕ) → Type 0
-TakenUnsigned k before v after = (word : List ℕ) × (before ≡ word ∷ after) × (ParsesUnsigned {E = ParseIntError} k 10 word (Ok v) × ExplainsUnsignedError {T = ℕ} 10 word (Ok v) × HasUnsignedDigitsIfOk {E = ParseIntError} word (Ok v))
+-- the parts of a block: the picture's flags, the reference, the element, and the record
+pub block_spelt : (words : List (List ℕ)) → spelt block_forms words ≡ spelt picture_forms words && (is_number (unsigned 10 16) (first (words_after picture_forms words)) && (is_number (unsigned 10 32) (first (drop 1 (words_after picture_forms words))) && spelt record_forms (drop 1 (drop 1 (words_after picture_forms words)))))
+block_spelt words = spelt-append picture_forms (unsigned 10 16 ∷ unsigned 10 32 ∷ record_forms) words ∙ ap (λ b. spelt picture_forms words && b) (two (words_after picture_forms words))
+  where
+    two : (others : List (List ℕ)) → spelt (unsigned 10 16 ∷ unsigned 10 32 ∷ record_forms) others ≡ is_number (unsigned 10 16) (first others) && (is_number (unsigned 10 32) (first (drop 1 others)) && spelt record_forms (drop 1 (drop 1 others)))
+    two others = unfold spelt in refl
 
--- and as a signed one
-abbrev pub TakenSigned : Width → List (List ℕ) → ℤ → List (List ℕ) → Type 0
-TakenSigned w before v after = (word : List ℕ) × (before ≡ word ∷ after) × (ParsesSigned {E = ParseIntError} w 10 word (Ok v) × ExplainsSignedError {T = ℤ} 10 word (Ok v) × HasSignedDigitsIfOk {E = ParseIntError} word (Ok v))
+pub block_numbers_in : (words : List (List ℕ)) → numbers_in block_forms words ≡ numbers_in picture_forms words ++ (number_in (unsigned 10 16) (first (words_after picture_forms words)) ∷ number_in (unsigned 10 32) (first (drop 1 (words_after picture_forms words))) ∷ numbers_in record_forms (drop 1 (drop 1 (words_after picture_forms words))))
+block_numbers_in words = numbers_in-append picture_forms (unsigned 10 16 ∷ unsigned 10 32 ∷ record_forms) words ∙ ap (λ ns. numbers_in picture_forms words ++ ns) (two (words_after picture_forms words))
+  where
+    two : (others : List (List ℕ)) → numbers_in (unsigned 10 16 ∷ unsigned 10 32 ∷ record_forms) others ≡ number_in (unsigned 10 16) (first others) ∷ number_in (unsigned 10 32) (first (drop 1 others)) ∷ numbers_in record_forms (drop 1 (drop 1 others))
+    two others = unfold numbers_in in refl
 
-pub spells_unsigned : (k : ℕ) (before after : List (List ℕ)) (v : ℕ) → TakenUnsigned k before v after → Spells in_decimal before (pos v ∷ []) after
-spells_unsigned k before after v taken =
-    spells_one in_decimal before after _ taken.0 taken.1 (spelled_unsigned taken.0 v taken.2.2 taken.2.0.1)
+pub block_words_after : (words : List (List ℕ)) → words_after block_forms words ≡ words_after record_forms (drop 1 (drop 1 (words_after picture_forms words)))
+block_words_after words = words_after-append picture_forms (unsigned 10 16 ∷ unsigned 10 32 ∷ record_forms) words ∙ two (words_after picture_forms words)
+  where
+    two : (others : List (List ℕ)) → words_after (unsigned 10 16 ∷ unsigned 10 32 ∷ record_forms) others ≡ words_after record_forms (drop 1 (drop 1 others))
+    two others = unfold words_after in refl
 
--- a signed number is told as it is stored
-pub spells_signed : (w : Width) (before after : List (List ℕ)) (v : ℤ) → TakenSigned w before v after → Spells in_decimal before (to_z w (of_z w v) ∷ []) after
-spells_signed w before after v taken =
-    let fits : SFits w v = subst (SFits w) (sym taken.2.0.1) taken.2.0.0.1 in
-    spells_one in_decimal before after _ taken.0 taken.1 (sym taken.2.0.1 ∙ sym (to_z-of_z w v fits))
+-- while a row is to come, the forms of those to come begin with its own
+pub rows_to_come : (i : ℕ) (form : Form) → i < 16 → replicate (16 - i) form ≡ form ∷ replicate (16 - (i + 1)) form
+rows_to_come i form inside = let one : 16 - i ≡ suc (16 - (i + 1)) = omega arith in rw one refl
 
--- some values, and then others
-pub spells_append : {A : Type 0} (spell : List ℕ → A) (a b c : List (List ℕ)) (vs ws : List A) → Spells spell a vs b → Spells spell b ws c → Spells spell a (vs ++ ws) c
-unfolding Spells
-spells_append spell a b c vs ws first more = (
-  first.0 ++ more.0,
-  first.1 ∙ ap (λ x. first.0 ++ x) more.1 ∙ sym (append_assoc first.0 more.0 c),
-  map-append spell first.0 more.0 ∙ cc (first.2, more.2),
-)
+no_rows_to_come : (i : ℕ) (form : Form) → 16 ≤ i → replicate (16 - i) form ≡ []
+no_rows_to_come i form past = let none : 16 - i ≡ 0 = omega arith in rw none refl
 
-pub spells_more : {A : Type 0} (spell : List ℕ → A) (a b c : List (List ℕ)) (v : A) (vs : List A) → Spells spell a (v ∷ []) b → Spells spell b vs c → Spells spell a (v ∷ vs) c
-spells_more spell a b c v vs first more = spells_append spell a b c (v ∷ []) vs first more
+-- what one more row is to those so far and those to come
+pub rows_numbers : (items : List ℕ) (words rest : List (List ℕ)) (i v : ℕ) → i < 16 → i < length items → pos v ≡ number_in (unsigned 16 16) (first words) → rest ≡ drop 1 words → map pos (take i items) ++ numbers_in (replicate (16 - i) (unsigned 16 16)) words ≡ map pos (take (i + 1) (set items i v)) ++ numbers_in (replicate (16 - (i + 1)) (unsigned 16 16)) rest
+unfolding numbers_in
+rows_numbers items words rest i v inside there number taken =
+    rw (rows_to_come i (unsigned 16 16) inside)
+    (rw (take_more_set items i v there)
+    (rw (map-append pos (take i items) (v ∷ []))
+    (sym (append_assoc (map pos (take i items)) (pos v ∷ []) _ ∙ cc (number, taken)))))
 
--- no word is left
-pub spells_all : {A : Type 0} (spell : List ℕ → A) (a b : List (List ℕ)) (vs : List A) → Spells spell a vs b → b ≡ [] → Spells spell a vs []
-spells_all spell a b vs some end = subst (Spells spell a vs) end some
+pub rows_spelt : (words rest : List (List ℕ)) (i : ℕ) → i < 16 → true ≡ is_number (unsigned 16 16) (first words) → rest ≡ drop 1 words → spelt (replicate (16 - i) (unsigned 16 16)) words ≡ spelt (replicate (16 - (i + 1)) (unsigned 16 16)) rest
+unfolding spelt
+rows_spelt words rest i inside accepted taken =
+    rw (rows_to_come i (unsigned 16 16) inside) (ap (λ b. b && spelt (replicate (16 - (i + 1)) (unsigned 16 16)) (drop 1 words)) (sym accepted) ∙ ap (spelt (replicate (16 - (i + 1)) (unsigned 16 16))) (sym taken))
 
--- no word is taken yet
-pub spells_none : {A : Type 0} (spell : List ℕ → A) (words : List (List ℕ)) → Spells spell words [] words
-unfolding Spells
-spells_none spell words = ([], refl, refl)
+pub rows_after : (words rest : List (List ℕ)) (i : ℕ) → i < 16 → rest ≡ drop 1 words → words_after (replicate (16 - i) (unsigned 16 16)) words ≡ words_after (replicate (16 - (i + 1)) (unsigned 16 16)) rest
+unfolding words_after
+rows_after words rest i inside taken =
+    rw (rows_to_come i (unsigned 16 16) inside) (ap (words_after (replicate (16 - (i + 1)) (unsigned 16 16))) (sym taken))
 
--- one value more at the place that a loop has reached
-pub spells_next : {A : Type 0} (spell : List ℕ → A) (a b c : List (List ℕ)) (vs : List A) (i : ℕ) (v : A) → i < length vs → Spells spell a (take i vs) b → Spells spell b (v ∷ []) c → Spells spell a (take (i + 1) (set vs i v)) c
-spells_next spell a b c vs i v inside some one =
-    subst (λ ws. Spells spell a ws c) (sym (take_more_set vs i v inside)) (spells_append spell a b c (take i vs) (v ∷ []) some one)
+-- no row is to come
+pub rows_whole : (i : ℕ) (words : List (List ℕ)) → 16 ≤ i → (spelt (replicate (16 - i) (unsigned 16 16)) words ≡ true) × (numbers_in (replicate (16 - i) (unsigned 16 16)) words ≡ []) × (words_after (replicate (16 - i) (unsigned 16 16)) words ≡ words)
+unfolding spelt numbers_in words_after
+rows_whole i words past = rw (no_rows_to_come i (unsigned 16 16) past) (refl, refl, refl)
+
+none_left : (words : List (List ℕ)) → (length words == 0) ≡ true → [] ≡ words
+none_left [] none = refl
+none_left (word ∷ words) none = grind arith
+
+-- all words spell the numbers
+pub spells_whole : (forms : List Form) (words : List (List ℕ)) (numbers : List ℤ) → true ≡ spelt_whole forms words → numbers ≡ numbers_in forms words → Spells forms words numbers []
+spells_whole forms words numbers accepted same = record {
+  spelt = grind (arith, accepted);
+  numbers = same;
+  rest = none_left (words_after forms words) (grind (arith, accepted));
+}

@@ -1,18 +1,20 @@
 // Hex digits: 0 to 9, and A to F in upper case. The kit's crate `hex` takes lower case too, which is no digit of a case.
-ghost use Rattle.std.specs.Prelude.{◌≡◌, ℕ, ◌+◌, ◌*◌, ◌%◌, ◌<◌, ◌&&◌, ◌==◌, ◌∷◌, ◌⊎◌, ◌↔◌, [], is_ok, IsOk, true, false, nat_le, length, map, IfOk, OnOk, OnErr, MatchResult};
+ghost use Rattle.std.specs.Prelude.{◌≡◌, ℕ, ◌+◌, ◌*◌, ◌%◌, ◌<◌, ◌&&◌, ◌==◌, ◌∷◌, ◌⊎◌, ◌↔◌, [], is_ok, IsOk, true, false, nat_le, length, map, IfOk, IfErr, OnOk, OnErr, MatchResult};
 ghost use Rattle.std.specs.List.{list_all};
 ghost use Rattle.std.specs.Str.Iter.{bytes_rest};
-ghost use Rattle.cases.specs.Digits.{is_hex, hex_value, hex_pair, byte_in, bytes_in, rows_in};
+ghost use Rattle.cases.specs.Digits.{is_hex, hex_value, hex_pair, are_pairs, byte_in, bytes_in, rows_in};
+ghost use Rattle.cases.specs.Stop.{Unread};
 
+use crate::Stop;
 use anyhow::{Context, anyhow, ensure};
 use std::alloc::Global;
 use std::str::Bytes;
 
 // The bytes that pairs of digits spell.
-pub(crate) fn bytes_of(heap: Global, text: &str) -> anyhow::Result<Vec<u8>>
+pub(crate) fn bytes_of(heap: Global, text: &str) -> Result<Vec<u8>, Stop>
     ensures value { IfOk result (λ bytes. bytes.items ≡ bytes_in text.now) }
-    ensures digits { OnOk result (list_all is_hex text.now ≡ true) }
-    ensures pairs { OnOk result (length text.now % 2 ≡ 0) }
+    ensures pairs { OnOk result (are_pairs text.now ≡ true) }
+    ensures stop { IfErr result (λ stop. Unread (are_pairs text.now) stop) }
 {
     let (pairs, half) = text.as_bytes().as_chunks::<2>();
     let mut bytes = Vec::new(heap);
@@ -38,7 +40,7 @@ fn none_left(half: &[u8]) -> anyhow::Result<()>
 
 fn byte_of(pair: &[u8; 2]) -> anyhow::Result<u8>
     ensures value { IfOk result (λ byte. byte ≡ byte_in pair.now) }
-    ensures digits { OnOk result (hex_pair pair.now ≡ true) }
+    ensures digits { is_ok result ≡ hex_pair pair.now }
 {
     let [high, low] = *pair;
     Ok(16 * nibble(high)? + nibble(low)?)

@@ -4,6 +4,7 @@
 
 mod answers;
 mod digits;
+mod number;
 mod run;
 mod stop;
 mod text;
@@ -11,7 +12,7 @@ mod words;
 
 pub use answers::{check_case, decode_case, encode_case};
 pub use digits::rows_of;
-pub use run::{Kinds, answer_lines};
+pub use run::{Kinds, answer_all, answer_lines};
 pub use stop::Stop;
 pub use text::{BlockLine, Refusal};
 pub use words::{Words, parsed};

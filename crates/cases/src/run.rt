@@ -1,31 +1,69 @@
 // A program of cases: each line of standard input is one, and its first word is its kind.
+ghost use Rattle.std.specs.Prelude.{List, ℕ, Result, IfOk, IfSome, OnOk, map, string_bytes};
+ghost use Rattle.std.specs.declared.string.String.{String};
+ghost use Rattle.std.specs.declared.alloc.Global.{Global};
+ghost use Rattle.std.specs.Io.KnownBytes.{Appends};
+ghost use Rattle.cases.specs.declared.stop.Stop.{Stop};
 ghost use Rattle.cases.specs.Answers.{Told};
+ghost use Rattle.cases.specs.Lines.{AnswersLine, AnswersAll, IsCut, IsTextOf, lines_of};
+ghost use Rattle.cases.specs.Words.{left};
 
 use crate::text::Refusal;
 use crate::{Stop, Words};
-use std::alloc::Global;
-use std::io::{BufRead, BufReader};
+use std::alloc::{AllocError, Global};
+use std::io::{BufRead, BufReader, Write, writer};
 
 // What a program answers to the kinds of cases that it knows. It is no closure: who calls one has to ask that it may be called.
 pub trait Kinds {
-    fn answer(&self, heap: Global, kind: &str, case: &mut Words<'_>) -> Result<String, Stop>;
+    // What may be answered to a kind of case and the words after it.
+    ghost answers: { Self → List ℕ → List (List ℕ) → Result (String Global) Stop → Type 0 };
+
+    fn answer(&self, heap: Global, kind: &str, case: &mut Words<'_>) -> Result<String, Stop>
+        ensures { answers self.now kind.now (left case.old) result };
 }
 
-// Prints the answer to each line, up to the first that is no case.
+// Prints the answer to each line of standard input, up to the first that is no case.
 pub fn answer_lines<K: Kinds>(rt: &HostRuntime, kinds: &K) -> anyhow::Result<()> {
-    for line in BufReader::new(rt.alloc(), rt.stdin())?.lines(rt.alloc()) {
+    let input = BufReader::new(rt.alloc(), rt.stdin())?;
+    answer_all(rt.alloc(), kinds, input, &mut writer(rt))
+}
+
+// The same of any input and output, where it can be said: what they give and take is known of no file and no terminal.
+pub fn answer_all<K: Kinds, R: BufRead + Drop, W: Write>(
+    heap: Global,
+    kinds: &K,
+    input: R,
+    output: &mut W,
+) -> anyhow::Result<()>
+    ensures { OnOk result (IfSome (R.Read.remaining input) (λ bytes. (texts : List (List ℕ)) × AnswersAll (K.answers kinds.now) bytes texts × Appends (W.contents output.old) (W.contents output.new) (lines_of texts))) }
+{
+    for line in input.lines(heap) {
         let text = line?;
-        let answer = told(rt.alloc(), answer_of(rt.alloc(), text.as_str(), kinds))?;
-        println!(rt; "{answer}")?;
+        let answer = answered(heap, text.as_str(), kinds)?;
+        writeln!(output, "{answer}")?;
     }
     Ok(())
 }
 
-fn answer_of<K: Kinds>(heap: Global, line: &str, kinds: &K) -> Result<String, Stop> {
-    let words: Vec<&str> = line.split(' ').collect(heap)?;
+fn answered<K: Kinds>(heap: Global, line: &str, kinds: &K) -> anyhow::Result<String>
+    ensures { IfOk result (λ text. (answer : Result (String Global) Stop) × AnswersLine (K.answers kinds.now) line.now answer × IsTextOf answer (string_bytes text)) }
+{
+    told(heap, answer_of(heap, line, kinds))
+}
+
+fn answer_of<K: Kinds>(heap: Global, line: &str, kinds: &K) -> Result<String, Stop>
+    ensures { AnswersLine (K.answers kinds.now) line.now result }
+{
+    let words = words_of(heap, line)?;
     let mut case = Words::new(&words);
     let kind = case.word()?;
     kinds.answer(heap, kind, &mut case)
+}
+
+fn words_of(heap: Global, line: &str) -> Result<Vec<&str>, AllocError>
+    ensures { IfOk result (λ words. IsCut line.now (map (λ word. word.now) words.items)) }
+{
+    Ok(line.split(' ').collect(heap)?)
 }
 
 // A refusal is an answer too.
@@ -39,5 +77,6 @@ fn told(heap: Global, answer: Result<String, Stop>) -> anyhow::Result<String>
             Ok(format!(in heap; "{refusal}")?)
         }
         Err(Stop::Broken(error)) => Err(error),
+        Err(Stop::NoMemory) => Err(AllocError.into()),
     }
 }

@@ -1,15 +1,15 @@
-// Why a case ends early: a call refused, which is an answer too, or the line is no case.
+// Why a case ends early: a call refused, which is an answer too, the line is no case, or there is no memory for the answer.
 ghost use Rattle.std.specs.Prelude.{◌≡◌};
-ghost use Rattle.anyhow.specs.declared.error.Error.{Error};
-ghost use Rattle.cases.specs.declared.stop.Stop.TheVariants.{Refused, Broken};
+ghost use Rattle.cases.specs.declared.stop.Stop.TheVariants.{Refused, Broken, NoMemory};
 
 use fault::Fault;
-use std::alloc::AllocError;
+use std::alloc::{AllocError, AllocFailed};
 
 #[derive(Drop)]
 pub enum Stop {
     Refused(Fault),
     Broken(anyhow::Error),
+    NoMemory,
 }
 
 impl From<Fault> for Stop {
@@ -28,11 +28,18 @@ impl From<anyhow::Error> for Stop {
     }
 }
 
-// There is no memory for the answer.
 impl From<AllocError> for Stop {
-    ghost from_gives = { λ _ stop. (error : Error) × (stop ≡ Broken error) };
+    ghost from_gives = { λ _ stop. stop ≡ NoMemory };
 
-    fn from(error: AllocError) -> Stop {
-        Stop::Broken(error.into())
+    fn from(_error: AllocError) -> Stop {
+        Stop::NoMemory
+    }
+}
+
+impl<T: Drop> From<AllocFailed<T>> for Stop {
+    ghost from_gives = { λ _ stop. stop ≡ NoMemory };
+
+    fn from(_failed: AllocFailed<T>) -> Stop {
+        Stop::from(AllocError)
     }
 }

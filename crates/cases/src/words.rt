@@ -1,9 +1,12 @@
 // The words of a case, taken one after the other.
-ghost use Rattle.std.specs.Prelude.{◌≡◌, ◌↔◌, ◌⊎◌, List, ℕ, [], ◌∷◌, map, IsOk, OnOk, IfOk, IfErr, MatchResult, Ok, Err, pos};
-ghost use Rattle.cases.specs.Words.{left, Reads, Spells, SpellsBytes, in_decimal, in_hex};
+ghost use Rattle.std.specs.Prelude.{◌≡◌, ◌↔◌, ◌⊎◌, List, ℕ, [], ◌∷◌, map, drop, length, ◌==◌, is_ok, IsOk, OnOk, IfOk, IfErr, MatchResult, Ok, Err, pos};
+ghost use Rattle.cases.specs.Words.{left, first, Reads, are_bytes, SpellsBytes, flag, unsigned, is_number, number_in, picture_forms, record_forms, block_forms, row_forms, spelt, numbers_in, words_after, spelt_whole};
+ghost use Rattle.cases.specs.Stop.{Unread};
 ghost use Rattle.cases.specs.Numbers.{bit, picture_numbers, record_numbers, block_numbers};
 
+use crate::Stop;
 use crate::digits::bytes_of;
+use crate::number::Number;
 use anyhow::{Context, anyhow, ensure};
 use record::{Block, PictureFlags, Record};
 use std::alloc::Global;
@@ -49,30 +52,41 @@ impl<'a> Words<'a> {
 
     // All words are taken.
     pub fn end(&self) -> anyhow::Result<()>
-        ensures { IsOk result ↔ (left self.now ≡ []) }
+        ensures all { IsOk result ↔ (left self.now ≡ []) }
+        ensures test { is_ok result ≡ (length (left self.now) == 0) }
     {
         ensure!(self.rest().is_empty(), "a case of too many words");
         Ok(())
     }
 
-    fn byte(&mut self) -> anyhow::Result<u8>
-        ensures { IfOk result (λ v. Spells in_decimal (left self.old) (pos v ∷ []) (left self.new)) }
+    // Takes the next word as a number.
+    fn number<T: Number>(&mut self) -> anyhow::Result<T>
+    where
+        anyhow::Error: From<T::Err>,
+        ensures accepts { is_ok result ≡ is_number T.form (first (left self.old)) }
+        ensures number { IfOk result (λ v. T.number v ≡ number_in T.form (first (left self.old))) }
+        ensures rest { OnOk result (left self.new ≡ drop 1 (left self.old)) }
     {
-        Ok(self.take()?)
+        self.take()
     }
 
     fn flag(&mut self) -> anyhow::Result<bool>
-        ensures { IfOk result (λ b. Spells in_decimal (left self.old) (bit b ∷ []) (left self.new)) }
+        ensures accepts { is_ok result ≡ is_number flag (first (left self.old)) }
+        ensures number { IfOk result (λ b. bit b ≡ number_in flag (first (left self.old))) }
+        ensures rest { OnOk result (left self.new ≡ drop 1 (left self.old)) }
     {
-        match self.byte()? {
+        match self.number::<u8>()? {
             0 => Ok(false),
             1 => Ok(true),
             _ => Err(anyhow!("a flag that is neither 0 nor 1")),
         }
     }
 
+    #[tactic(auto, unfolding(crate::specs::Words::spelt, crate::specs::Words::numbers_in, crate::specs::Words::words_after))]
     fn picture(&mut self) -> anyhow::Result<PictureFlags>
-        ensures { IfOk result (λ p. Spells in_decimal (left self.old) (picture_numbers p) (left self.new)) }
+        ensures accepts { is_ok result ≡ spelt picture_forms (left self.old) }
+        ensures numbers { IfOk result (λ p. picture_numbers p ≡ numbers_in picture_forms (left self.old)) }
+        ensures rest { OnOk result (left self.new ≡ words_after picture_forms (left self.old)) }
     {
         Ok(PictureFlags {
             fr_fl_srib: self.flag()?,
@@ -84,8 +98,11 @@ impl<'a> Words<'a> {
     }
 
     // Takes the next 23 words as a record.
+    #[tactic(auto, unfolding(crate::specs::Words::spelt, crate::specs::Words::numbers_in, crate::specs::Words::words_after))]
     pub fn record(&mut self) -> anyhow::Result<Record>
-        ensures { IfOk result (λ r. Spells in_decimal (left self.old) (record_numbers r) (left self.new)) }
+        ensures accepts { is_ok result ≡ spelt record_forms (left self.old) }
+        ensures numbers { IfOk result (λ r. record_numbers r ≡ numbers_in record_forms (left self.old)) }
+        ensures rest { OnOk result (left self.new ≡ words_after record_forms (left self.old)) }
     {
         Ok(Record {
             mb_quant: self.flag()?,
@@ -94,34 +111,36 @@ impl<'a> Words<'a> {
             mb_pattern: self.flag()?,
             mb_intra: self.flag()?,
             dct_type: self.flag()?,
-            mv000: self.take()?,
-            mv010: self.take()?,
-            mv100: self.take()?,
-            mv110: self.take()?,
-            mv001: self.take()?,
-            mv011: self.take()?,
-            mv101: self.take()?,
-            mv111: self.take()?,
-            motion_type: self.take()?,
+            mv000: self.number()?,
+            mv010: self.number()?,
+            mv100: self.number()?,
+            mv110: self.number()?,
+            mv001: self.number()?,
+            mv011: self.number()?,
+            mv101: self.number()?,
+            mv111: self.number()?,
+            motion_type: self.number()?,
             skipped_mb: self.flag()?,
-            num_other_bits: self.take()?,
+            num_other_bits: self.number()?,
             slice_start_flag: self.flag()?,
-            num_mv_bits: self.take()?,
-            q_scale_code: self.take()?,
-            mb_vert_field_sel: self.take()?,
-            num_coef_bits: self.take()?,
-            coded_block_pattern: self.take()?,
+            num_mv_bits: self.number()?,
+            q_scale_code: self.number()?,
+            mb_vert_field_sel: self.number()?,
+            num_coef_bits: self.number()?,
+            coded_block_pattern: self.number()?,
         })
     }
 
     // The rest, as a block.
+    #[tactic(auto, using(crate::proofs::Spelling::block_spelt, crate::proofs::Spelling::block_numbers_in, crate::proofs::Spelling::block_words_after))]
     pub(crate) fn block(&mut self) -> anyhow::Result<Block>
-        ensures { IfOk result (λ b. Spells in_decimal (left self.old) (block_numbers b) []) }
+        ensures accepts { is_ok result ≡ spelt_whole block_forms (left self.old) }
+        ensures numbers { IfOk result (λ b. block_numbers b ≡ numbers_in block_forms (left self.old)) }
     {
         let block = Block {
             picture: self.picture()?,
-            reference: self.take()?,
-            element: self.take()?,
+            reference: self.number()?,
+            element: self.number()?,
             record: self.record()?,
         };
         self.end()?;
@@ -130,8 +149,10 @@ impl<'a> Words<'a> {
 
     // The rest, as rows in hex. Not by `array::try_from_fn`, whose contract does not say that each call goes on where the last one
     // stopped.
+    #[tactic(auto, using(crate::proofs::Spelling::rows_to_come), unfolding(crate::specs::Words::spelt, crate::specs::Words::numbers_in, crate::specs::Words::words_after))]
     pub fn rows(&mut self) -> anyhow::Result<[u16; 16]>
-        ensures rows { IfOk result (λ rows. Spells in_hex (left self.old) rows []) }
+        ensures accepts { is_ok result ≡ spelt_whole row_forms (left self.old) }
+        ensures rows { IfOk result (λ rows. map pos rows ≡ numbers_in row_forms (left self.old)) }
         ensures all { OnOk result (left self.new ≡ []) }
     {
         let mut rows = [0; 16];
@@ -142,16 +163,19 @@ impl<'a> Words<'a> {
         Ok(rows)
     }
 
-    #[tactic(auto, using(crate::proofs::Spelling::spells_one))]
+    #[tactic(auto, using(crate::specs::Reading::numeral_passes, crate::specs::Reading::passing_numeral))]
     fn row(&mut self) -> anyhow::Result<u16>
-        ensures { IfOk result (λ row. Spells in_hex (left self.old) (row ∷ []) (left self.new)) }
+        ensures accepts { is_ok result ≡ is_number (unsigned 16 16) (first (left self.old)) }
+        ensures number { IfOk result (λ v. pos v ≡ number_in (unsigned 16 16) (first (left self.old))) }
+        ensures rest { OnOk result (left self.new ≡ drop 1 (left self.old)) }
     {
         Ok(u16::from_str_radix(self.word()?, 16)?)
     }
 
     // The bytes that pairs of hex digits spell, the rest; none where no word is left.
-    pub(crate) fn bytes(&mut self, heap: Global) -> anyhow::Result<Vec<u8>>
-        ensures { IfOk result (λ bytes. SpellsBytes (left self.old) bytes.items) }
+    pub(crate) fn bytes(&mut self, heap: Global) -> Result<Vec<u8>, Stop>
+        ensures bytes { IfOk result (λ bytes. SpellsBytes (left self.old) bytes.items) }
+        ensures stop { IfErr result (λ stop. Unread (are_bytes (left self.old)) stop) }
     {
         let text = self.left.next().copied().unwrap_or("");
         self.end()?;

@@ -1,6 +1,8 @@
 // Answers cases about checks and blocks, one a line of standard input, so that a second program can be held to the same answers.
 #![tactic(auto)]
 
+ghost use Rattle.cases.specs.Answers.{OfBlocks, NoOther};
+
 use anyhow::anyhow;
 use cases::{Kinds, Stop, Words, answer_lines, check_case, decode_case, encode_case};
 use std::alloc::Global;
@@ -14,6 +16,8 @@ fn main(rt: HostRuntime) -> anyhow::Result<()> {
 struct Blocks;
 
 impl Kinds for Blocks {
+    ghost answers = { λ _ kind words answer. OfBlocks kind words answer × NoOther kind answer };
+
     fn answer(&self, heap: Global, kind: &str, case: &mut Words<'_>) -> Result<String, Stop> {
         match kind {
             "check" => check_case(heap, case),

@@ -1,4 +1,9 @@
 // Answers about delivering: elements of an image and single values are offered to a table, and it is delivered.
+ghost use Rattle.std.specs.Prelude.{◌≡◌, Some};
+ghost use Rattle.image.specs.Image.{done, overwritten, blank_image};
+ghost use Rattle.image.specs.Elements.{element_at};
+ghost use Rattle.extractor.specs.Delivery.{delivering};
+
 use crate::images::{Change, element_in, last_element, mend};
 use crate::tables::{Offer, empties};
 use cases::{Refusal, Stop, Words, parsed};
@@ -86,7 +91,10 @@ pub struct Delivered {
 }
 
 impl Delivered {
-    pub fn of(table: &Table<'_, u32>) -> Delivered {
+    pub fn of(table: &Table<'_, u32>) -> Delivered
+        ensures answer { result.answer ≡ done (delivering table.now.slots.now) }
+        ensures check { element_at (overwritten (delivering table.now.slots.now) blank_image) 134 ≡ Some result.check }
+    {
         let mut image = SealedImage::blank();
         let answer = deliver(table, &mut image);
         let check = last_element(&image);

@@ -1,6 +1,4 @@
 // Answers about gathering: rows are embedded in columns of a slab, and macroblocks are gathered.
-ghost use Rattle.std.specs.Prelude.{◌≡◌, ◌+◌, ◌*◌};
-
 use crate::memory::{OnSlab, SlabCase};
 use crate::tables::{Offer, Shown, add_slots, empties};
 use crate::told::Told;
@@ -8,6 +6,7 @@ use anyhow::Context;
 use block::encode;
 use cases::{Refusal, Stop, Words, parsed, rows_of};
 use column::embed;
+use crc::check;
 use extractor::{Gathering, start};
 use fault::Fault;
 use raster::Raster;
@@ -34,7 +33,7 @@ pub fn start_case(heap: Global, case: &mut Words<'_>) -> Result<String, Stop> {
             format!(in heap; "{refusal}")?
         }
     };
-    add_slots(&mut line, &table)?;
+    add_slots(&mut line, &slots)?;
     Ok(line)
 }
 
@@ -103,9 +102,9 @@ impl OnSlab for Run<'_> {
         let mut line = String::from_str(self.heap, "gather")?;
         self.take(slab, &mut table, &mut sheet, &mut line)?;
         line.push_str(" table")?;
-        add_slots(&mut line, &table)?;
+        add_slots(&mut line, &slots)?;
         line.push_str(" sheet")?;
-        add_slots(&mut line, &sheet)?;
+        add_slots(&mut line, &lines)?;
         Ok(line)
     }
 }
@@ -172,13 +171,6 @@ impl Shown for Record {
             element: 0,
             record: *self,
         };
-        let [.., high, low] = encode(&block)?;
-        Ok(Check(joined(high, low)))
+        Ok(Check(check(&encode(&block)?[..14])))
     }
-}
-
-fn joined(high: u16, low: u16) -> u32
-    ensures { result ≡ high * 65536 + low }
-{
-    u32::from(high) * 65536 + u32::from(low)
 }

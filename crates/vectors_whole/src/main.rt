@@ -1,6 +1,8 @@
 // Answers cases, one a line of standard input, so that a second program can be held to the same answers.
 #![tactic(auto)]
 
+ghost use Rattle.cases.specs.Answers.{OfBlocks};
+
 use anyhow::anyhow;
 use cases::{Kinds, Stop, Words, answer_lines, check_case, decode_case, encode_case};
 use deliveries::deliver_case;
@@ -32,7 +34,10 @@ fn main(rt: HostRuntime) -> anyhow::Result<()> {
 #[derive(Clone, Copy)]
 struct All;
 
+// Of the kinds about checks and blocks it says what they answer. The others are held to the second program's answers.
 impl Kinds for All {
+    ghost answers = { λ _ kind words answer. OfBlocks kind words answer };
+
     fn answer(&self, heap: Global, kind: &str, case: &mut Words<'_>) -> Result<String, Stop> {
         match kind {
             "check" => check_case(heap, case),

@@ -1,5 +1,8 @@
 // Slabs in memory that is filled from a seed.
-ghost use Rattle.std.specs.Prelude.{◌≡◌, ◌+◌, ◌*◌, ◌/◌, ◌%◌, ◌^◌};
+ghost use Rattle.std.specs.Prelude.{◌≡◌, ℕ, ⊤, ◌*◌, ◌/◌, IfOk};
+ghost use Rattle.std.specs.Iterator.{YieldsFirst, item_count};
+ghost use Rattle.vectors_whole.specs.Seeds.{next_state, states_of, high_halves, high_bytes};
+ghost use Rattle.vectors_whole.specs.Slabs.{Filled, shown, word_in};
 
 use anyhow::anyhow;
 use buffer::{PackedBuffer, WordBuffer};
@@ -7,14 +10,18 @@ use cases::Words;
 use crc::check;
 use layer::{Field, FieldKind};
 use raster::{Extent, Raster};
-use std::alloc::Global;
+use std::alloc::{AllocError, Global};
 use std::str::FromStr;
 
 // What a case does on its slab, whatever raster that is. A closure could not be generic over the raster.
 pub trait OnSlab {
     type Said;
 
-    fn on<R: Raster>(self, slab: &mut R) -> Self::Said;
+    // What it may say of a slab of so many rows and words a row, which shows these words.
+    ghost says: { Self → ℕ → ℕ → (ℕ → ℕ → ℕ) → Self.Said → Type 0 } = { λ _ _ _ _ _. ⊤ };
+
+    fn on<R: Raster>(self, slab: &mut R) -> Self::Said
+        ensures { says self (R.Raster.rows slab.old) (R.Raster.words slab.old) (R.Raster.at slab.old) result };
 }
 
 // What raster a slab is: a buffer, or a field of a word buffer of twice the rows.
@@ -85,7 +92,10 @@ impl SlabCase {
     }
 
     // The slab, in memory of its own.
-    pub fn filled(&self, heap: Global) -> anyhow::Result<Slab> {
+    pub fn filled(&self, heap: Global) -> anyhow::Result<Slab>
+        ensures case { IfOk result (λ slab. slab.case ≡ self.now) }
+        ensures memory { IfOk result (λ slab. Filled self.now slab.memory) }
+    {
         let words = usize::from(self.rows) * usize::from(self.words);
         let memory = match self.kind {
             Kind::Word => Memory::Word(self.cells(heap, words)?),
@@ -99,15 +109,21 @@ impl SlabCase {
     }
 
     // The high halves of the states after the seed.
-    fn cells(&self, heap: Global, count: usize) -> anyhow::Result<Vec<u16>> {
-        let states = States(self.seed).take(count);
-        Ok(states.map(|state| (state >> 16) as u16).collect(heap)?)
+    fn cells(&self, heap: Global, count: usize) -> Result<Vec<u16>, AllocError>
+        ensures { IfOk result (λ cells. cells.items ≡ high_halves count self.now.seed) }
+    {
+        States::after(self.seed, count)
+            .map(|state| (state >> 16) as u16)
+            .collect(heap)
     }
 
     // The high bytes of the states after the seed.
-    fn bytes(&self, heap: Global, count: usize) -> anyhow::Result<Vec<u8>> {
-        let states = States(self.seed).take(count);
-        Ok(states.map(|state| (state >> 24) as u8).collect(heap)?)
+    fn bytes(&self, heap: Global, count: usize) -> Result<Vec<u8>, AllocError>
+        ensures { IfOk result (λ bytes. bytes.items ≡ high_bytes count self.now.seed) }
+    {
+        States::after(self.seed, count)
+            .map(|state| (state >> 24) as u8)
+            .collect(heap)
     }
 }
 
@@ -127,7 +143,9 @@ enum Memory {
 
 impl Slab {
     // Hands the slab out, as the raster that it is.
-    pub fn lend<A: OnSlab>(&mut self, act: A) -> A::Said {
+    pub fn lend<A: OnSlab>(&mut self, act: A) -> A::Said
+        ensures { let extent = shown self.old.case self.old.memory in A.OnSlab.says act extent.rows extent.words (word_in self.old.case self.old.memory) result }
+    {
         let case = self.case;
         match &mut self.memory {
             Memory::Word(cells) => act.on(&mut WordBuffer::new(case.extent(), cells)),
@@ -148,22 +166,42 @@ impl Slab {
     }
 }
 
-// The states of the generator after a state.
+// The states of the generator that are to come.
 #[derive(Drop)]
-struct States(u32);
+struct States {
+    state: u32,
+    count: usize,
+}
+
+impl States {
+    fn after(state: u32, count: usize) -> States
+        ensures { result ≡ record { state = state; count = count } }
+    {
+        States { state, count }
+    }
+}
 
 impl Iterator for States {
     type Item = u32;
 
+    ghost next_gives = { YieldsFirst states_of };
+
+    ghost remaining = { item_count states_of };
+
+    #[tactic(auto, using(crate::proofs::Generator::states_none, crate::proofs::Generator::states_more))]
     fn next(&mut self) -> Option<u32> {
-        self.0 = next_state(self.0);
-        Some(self.0)
+        if self.count == 0 {
+            return None;
+        }
+        self.count -= 1;
+        self.state = next_state(self.state);
+        Some(self.state)
     }
 }
 
 // One step of the generator.
 fn next_state(state: u32) -> u32
-    ensures { result ≡ (1664525 * state + 1013904223) % 2 ^ 32 }
+    ensures { result ≡ next_state state }
 {
     state.wrapping_mul(1664525).wrapping_add(1013904223)
 }

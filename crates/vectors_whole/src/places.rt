@@ -1,4 +1,7 @@
 // Answers about placing: a record on a macroblock of a new picture.
+ghost use Rattle.std.specs.Prelude.{◌≡◌, min, Ok};
+ghost use Rattle.raster.specs.Difference.{differing};
+
 use crate::images::image_of;
 use crate::memory::{OnSlab, Slab, SlabCase};
 use cases::{Refusal, Stop, Words};
@@ -83,6 +86,8 @@ struct Differing<'a, P>(&'a P);
 
 impl<P: Raster> OnSlab for Differing<'_, P> {
     type Said = Result<u128, Fault>;
+
+    ghost says = { λ other rows words at said. said ≡ Ok (differing at (P.Raster.at other.0.now) (min rows (P.Raster.rows other.0.now)) (min words (P.Raster.words other.0.now))) };
 
     fn on<R: Raster>(self, slab: &mut R) -> Result<u128, Fault> {
         count_differing(&*slab, self.0)

@@ -68,9 +68,9 @@ impl<'a> Scene<'a> {
                 }
             }
         }
-        let slots = States::of(&table);
-        let lines = States::of(&sheet);
         let said = Delivered::of(&table);
+        let slots = States::of(&slots);
+        let lines = States::of(&lines);
         let line = format!(in self.heap;
             "scene placed {placed} gathered {gathered} table {slots} sheet {lines} {said}"
         )?;
@@ -154,6 +154,7 @@ impl Flip {
     fn on<R: Raster>(&self, slab: &mut R) {
         let row = usize::from(self.row);
         let first = 32 * usize::from(self.column);
+        // By its number: it names both a bit and the word that carries it.
         for k in 0..16 {
             if self.bits >> (15 - k) & 1 == 1 {
                 let _ = flip_word(slab, row, first + 2 * k);

@@ -1,6 +1,8 @@
 // Answers about slots: a word for each step on a table of empty slots.
-ghost use Rattle.std.specs.Prelude.{◌≡◌, ℕ, ◌<◌, IfOk, slice_index_or, vec_len};
+ghost use Rattle.std.specs.Prelude.{◌≡◌, ℕ, ◌<◌, IfOk, length, nat_eq, slice_index_or, vec_len};
 ghost use Rattle.slots.specs.declared.slot.Slot.TheVariants.{Empty};
+ghost use Rattle.slots.specs.Slots.{numbered, offered_at, same_state, state_of};
+ghost use Rattle.vectors_whole.specs.States.{slots_in};
 
 use crate::told::Told;
 use anyhow::Context;
@@ -41,7 +43,11 @@ pub struct Offer {
 }
 
 impl Offer {
-    pub fn make(&self, table: &mut Table<'_, u32>) -> Result<(), Fault> {
+    pub fn make(&self, table: &mut Table<'_, u32>) -> Result<(), Fault>
+        ensures answer { result ≡ numbered (length table.old.slots.now) self.now.at tt }
+        ensures slots { table.new.slots.now ≡ offered_at nat_eq table.old.slots.now self.now.at self.now.value }
+        ensures name { table.new.slots.ghost_name ≡ table.old.slots.ghost_name }
+    {
         table.offer(self.at, self.value)
     }
 }
@@ -73,13 +79,10 @@ impl Shown for u32 {
     }
 }
 
-// The slots that are not empty, each with its number. A table has no iterator: its call answers one slot.
-pub fn add_slots<V: Exact + Copy + Shown>(
-    line: &mut String,
-    table: &Table<'_, V>,
-) -> Result<(), Stop> {
-    for at in 0..table.len() {
-        match table.slot(at)? {
+// The slots that are not empty, each with its number.
+pub fn add_slots<V: Shown>(line: &mut String, slots: &[Slot<V>]) -> Result<(), Stop> {
+    for (at, slot) in slots.iter().enumerate() {
+        match slot {
             Slot::Empty => {}
             Slot::Held(value) => {
                 let text = value.shown()?;
@@ -100,19 +103,29 @@ pub struct States {
 }
 
 impl States {
-    pub fn of<V: Exact + Copy>(table: &Table<'_, V>) -> States {
+    pub fn of<V>(slots: &[Slot<V>]) -> States
+        ensures held { result.held ≡ slots_in State.Held slots.now }
+        ensures disputed { result.disputed ≡ slots_in State.Disputed slots.now }
+        ensures empty { result.empty ≡ slots_in State.Empty slots.now }
+    {
         States {
-            held: count_in(table, State::Held),
-            disputed: count_in(table, State::Disputed),
-            empty: count_in(table, State::Empty),
+            held: count_in(slots, State::Held),
+            disputed: count_in(slots, State::Disputed),
+            empty: count_in(slots, State::Empty),
         }
     }
 }
 
-fn count_in<V: Exact + Copy>(table: &Table<'_, V>, state: State) -> usize {
-    (0..table.len())
-        .filter(|at| table.slot(*at).is_ok_and(|slot| slot.state() == state))
-        .count()
+fn count_in<V>(slots: &[Slot<V>], state: State) -> usize
+    ensures { result ≡ slots_in state slots.now }
+{
+    slots.iter().filter(|slot| is_in(slot, state)).count()
+}
+
+fn is_in<V>(slot: &Slot<V>, state: State) -> bool
+    ensures { result ≡ same_state (state_of slot.now) state }
+{
+    slot.state() == state
 }
 
 impl fmt::Display for States {

@@ -1,10 +1,25 @@
-use Rattle.std.proofs.Common.{arith}
-use Rattle.cases.proofs.Spelling.{spells_none, spells_next}
-use Rattle.cases.specs.Words.{in_hex}
+use Rattle.std.proofs.Common.{◌∙◌, arith}
+use Rattle.cases.specs.Words.{left}
+use Rattle.cases.proofs.Spelling.{rows_spelt, rows_numbers, rows_after, rows_whole}
 use Rattle.cases.proofs.words.Words.rows.Goals as goal
 
-pub loop-row-init : goal.loop-row-init
-loop-row-init c = spells_none in_hex _
-
 pub loop-row-preserved : goal.loop-row-preserved
-loop-row-preserved c = spells_next in_hex _ _ _ _ _ _ (omega arith) c.loop-row.invariant c.in_ok-row.ensures
+loop-row-preserved c =
+    let before = c.loop-row.invariant in
+    let row = c.in_ok-row.ensures in
+    record {
+      spelt = before.spelt ∙ rows_spelt _ _ _ c.loop-row-test.true row.accepts row.rest;
+      numbers = before.numbers ∙ rows_numbers _ _ _ _ _ c.loop-row-test.true (omega arith) row.number row.rest;
+      after = before.after ∙ rows_after _ _ _ c.loop-row-test.true row.rest;
+    }
+
+pub returns-in_err-end-clause-accepts : goal.returns-in_err-end-clause-accepts
+returns-in_err-end-clause-accepts c =
+    let whole = rows_whole _ (left c.loop-row.self) c.loop-row-test.false in
+    let before = c.loop-row.invariant in
+    grind (arith, whole, before)
+
+pub returns-clause-accepts : goal.returns-clause-accepts
+returns-clause-accepts c =
+    let whole = rows_whole _ (left c.loop-row.self) c.loop-row-test.false in
+    grind (arith, whole)
