@@ -3,16 +3,16 @@ use Rattle.crc.specs.Burst.{Block, check_fits}
 use Rattle.crc.proofs.Bursts.{burst_never_passes, zero_if_fits, fits_if_zero, fitting_decides}
 use Rattle.crc.proofs.burst.fits.Goals as goal
 
-pub returns : goal.returns
-returns c =
+block : (c : goal.After-is_fitting) → Block c.args.rows.now
+block c = record { long = c.told-rows; narrow = λ i _. c.fits-rows i }
+
+pub returns-clause-zero : goal.returns-clause-zero
+returns-clause-zero c =
     let rows = c.args.rows.now in
-    let block : Block rows = record { long = c.told-rows; narrow = λ i _. c.fits-rows i } in
     let r = c.is_fitting.result in
-    let e = c.is_fitting.ensures in
-    let d = Decides-at r (check_fits rows) e (fitting_decides rows) in
-    record {
-      value = e;
-      decides = d;
-      zero = Decides-like r (zero_if_fits rows block) (fits_if_zero rows block) d;
-      alone = λ t. burst_never_passes rows block (d.0 t);
-    }
+    Decides-like r (zero_if_fits rows (block c)) (fits_if_zero rows (block c)) (Decides-at r (check_fits rows) c.is_fitting.ensures (fitting_decides rows))
+
+pub returns-clause-alone : goal.returns-clause-alone
+returns-clause-alone c =
+    let rows = c.args.rows.now in
+    λ t. burst_never_passes rows (block c) ((Decides-at c.is_fitting.result (check_fits rows) c.is_fitting.ensures (fitting_decides rows)).0 t)

@@ -3,6 +3,6 @@ use Rattle.std.proofs.Common.{refl, ◌∙◌}
 use Rattle.crc.specs.Register.{run, word_bits, bits_of}
 use Rattle.crc.proofs.register.known_check.Goals as goal
 
-pub returns : goal.returns
+pub returns-clause-known : goal.returns-clause-known
 unfolding run word_bits bits_of
-returns c = record { value = c.of_digits.ensures; known = c.of_digits.ensures ∙ refl }
+returns-clause-known c = c.of_digits.ensures ∙ refl

@@ -1,4 +1,4 @@
-use Rattle.std.proofs.Common.{◌≡◌, ℕ, ◌+◌, ◌<◌, sym, refl, arith, rules, Bor}
+use Rattle.std.proofs.Common.{◌+◌, sym, rules}
 use Rattle.fault.proofs.Turns.{callable_in_try, folded}
 use Rattle.column.specs.Column.{spelled}
 use Rattle.column.proofs.Spelled.{spelled_none}
