@@ -11,7 +11,7 @@ use Rattle.extractor.specs.Gather.{gathered}
 use Rattle.tally.specs.Stripe.{tallied, elements_offered, records_offered}
 use Rattle.tally.specs.declared.kind.Kind.TheVariants.{Good}
 use Rattle.tally.proofs.Stripes.{count_below, elements_length}
-use Rattle.bench.specs.Gather.{answers_in, tally_in}
+use Rattle.bench.specs.Gather.{answers_in, tally_in, table_after, sheet_after}
 
 -- what a gather answers of each column of a packed slab
 abbrev pub answers : Gathering → ℕ → Extent → List ℕ → ℕ → ℕ → ℕ → Result Block Fault
@@ -39,3 +39,12 @@ length_offered said stripe (suc n) table = elements_length (said n) stripe n (el
 pub few_good : (g : Gathering) (stripe : ℕ) (memory : List ℕ) (slots sheet : ℕ) → (tally_in g stripe memory slots sheet).good ≤ sheet
 unfolding tally_in
 few_good g stripe memory slots sheet = count_below (answers_in g stripe memory slots sheet) Good sheet
+
+-- the table and the sheet after the first n stripes
+abbrev pub tables : Gathering → (ℕ → List ℕ) → ℕ → List (Slot ℕ) → ℕ → List (Slot ℕ)
+tables g memory sheet table zero = table
+tables g memory sheet table (suc n) = table_after g n (memory n) sheet (tables g memory sheet table n)
+
+abbrev pub sheets : Gathering → (ℕ → List ℕ) → ℕ → List (Slot Record) → ℕ → List (Slot Record)
+sheets g memory slots sheet zero = sheet
+sheets g memory slots sheet (suc n) = sheet_after g n (memory n) slots (sheets g memory slots sheet n)

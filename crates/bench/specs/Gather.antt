@@ -34,14 +34,14 @@ sheet_after g stripe memory slots sheet = records_offered (answers_in g stripe m
 abbrev pub bench_picture : Gathering
 bench_picture = record { format = Bench; first = 0 }
 
--- what is counted of each of the three stripes
-abbrev pub tallies_in : Gathering → List ℕ → List ℕ → List ℕ → ℕ → ℕ → List Tally
-tallies_in g first second third slots sheet = tally_in g 0 first slots sheet ∷ tally_in g 1 second slots sheet ∷ tally_in g 2 third slots sheet ∷ []
+-- what is counted of each of the three stripes, whose memories are given by number
+abbrev pub tallies_in : Gathering → (ℕ → List ℕ) → ℕ → ℕ → List Tally
+tallies_in g memory slots sheet = tally_in g 0 (memory 0) slots sheet ∷ tally_in g 1 (memory 1) slots sheet ∷ tally_in g 2 (memory 2) slots sheet ∷ []
 
 -- the table after them, with a sheet of so many slots
-abbrev pub table_of : Gathering → List ℕ → List ℕ → List ℕ → ℕ → List (Slot ℕ) → List (Slot ℕ)
-table_of g first second third sheet table = table_after g 2 third sheet (table_after g 1 second sheet (table_after g 0 first sheet table))
+abbrev pub table_of : Gathering → (ℕ → List ℕ) → ℕ → List (Slot ℕ) → List (Slot ℕ)
+table_of g memory sheet table = table_after g 2 (memory 2) sheet (table_after g 1 (memory 1) sheet (table_after g 0 (memory 0) sheet table))
 
 -- the sheet after them, with a table of so many slots: each stripe clears it first
-abbrev pub sheet_of : Gathering → List ℕ → List ℕ → List ℕ → ℕ → List (Slot Record) → List (Slot Record)
-sheet_of g first second third slots sheet = sheet_after g 2 third slots (sheet_after g 1 second slots (sheet_after g 0 first slots sheet))
+abbrev pub sheet_of : Gathering → (ℕ → List ℕ) → ℕ → List (Slot Record) → List (Slot Record)
+sheet_of g memory slots sheet = sheet_after g 2 (memory 2) slots (sheet_after g 1 (memory 1) slots (sheet_after g 0 (memory 0) slots sheet))

@@ -53,6 +53,7 @@ pub fn write_stripe<W: Writer>(writer: &W, slab: &mut Slab, stripe: Stripe) -> R
     write_in(writer, &mut slab.bytes, stripe)
 }
 
+// Over the slab's bytes, since the proof does not close where the buffer over them lives in the function that has the slab.
 fn write_in<W: Writer>(writer: &W, memory: &mut [u8], stripe: Stripe) -> Result<(), Fault>
     requires { length memory.old ≡ 28800 }
     ensures answer { result ≡ Ok tt }
@@ -86,6 +87,7 @@ pub fn count_read<C: Reader>(reader: &C, slab: &mut Slab, stripe: Stripe) -> usi
     count_in(reader, &mut slab.bytes, stripe)
 }
 
+// Over the slab's bytes, as `write_in`.
 fn count_in<C: Reader>(reader: &C, memory: &mut [u8], stripe: Stripe) -> usize
     requires { length memory.old ≡ 28800 }
     ensures answer { result ≡ count_read C.block (packed_at memory.old 1440) stripe.number 45 }

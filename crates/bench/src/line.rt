@@ -5,7 +5,7 @@ ghost use Rattle.bench.specs.Line.{line_text};
 use std::fmt;
 
 // A stripe, the words that writing moved in it, and the macroblocks that were read as their blocks.
-#[derive(Clone, Copy, Debug)]
+#[derive(Clone, Copy, Debug, Default)]
 pub struct StripeLine {
     pub stripe: usize,
     pub moved: u128,

@@ -3,17 +3,16 @@ ghost use Rattle.std.specs.Prelude.{◌≡◌, length, is_ok, if◌then◌else�
 ghost use Rattle.slots.specs.Slots.{cleared};
 ghost use Rattle.extractor.specs.Gather.{starting};
 ghost use Rattle.bench.specs.Gather.{bench_picture, tallies_in, table_of, sheet_of};
+ghost use Rattle.bench.specs.Memory.{memories, memory};
 
 use crate::Slabs;
 use crate::gather::gather_slab;
 use extractor::{Gathering, start};
 use fault::Fault;
+use format::Format;
 use record::Record;
 use slots::{Slot, Table};
 use tally::Tally;
-
-// The number of the bench format, as `start` takes it.
-const BENCH: u32 = 4;
 
 // Begins to gather the picture that starts at reference 0, with a cleared table of elements.
 pub fn start_picture(table: &mut Table<'_, u32>) -> Result<Gathering, Fault>
@@ -22,7 +21,7 @@ pub fn start_picture(table: &mut Table<'_, u32>) -> Result<Gathering, Fault>
     ensures table { table.new.slots.now ≡ (if is_ok result then cleared table.old.slots.now else table.old.slots.now) }
     ensures name { table.new.slots.ghost_name ≡ table.old.slots.ghost_name }
 {
-    start(BENCH, 0, table)
+    start(Format::Bench.number(), 0, table)
 }
 
 // Gathers the macroblocks in order of position, and counts what came of each stripe. The sheet serves one stripe after the other.
@@ -32,14 +31,15 @@ pub fn gather_picture(
     table: &mut Table<'_, u32>,
     sheet: &mut [Slot<Record>],
 ) -> [Tally; 3]
-    ensures tallies { result ≡ tallies_in gathering.now slabs.old.first.bytes.items slabs.old.second.bytes.items slabs.old.third.bytes.items (length table.old.slots.now) (length sheet.old) }
-    ensures table { table.new.slots.now ≡ table_of gathering.now slabs.old.first.bytes.items slabs.old.second.bytes.items slabs.old.third.bytes.items (length sheet.old) table.old.slots.now }
-    ensures sheet { sheet.new ≡ sheet_of gathering.now slabs.old.first.bytes.items slabs.old.second.bytes.items slabs.old.third.bytes.items (length table.old.slots.now) sheet.old }
-    ensures slabs { (slabs.new.first.bytes.items ≡ slabs.old.first.bytes.items) × ((slabs.new.second.bytes.items ≡ slabs.old.second.bytes.items) × (slabs.new.third.bytes.items ≡ slabs.old.third.bytes.items)) }
+    ensures tallies { result ≡ tallies_in gathering.now (memory slabs.old) (length table.old.slots.now) (length sheet.old) }
+    ensures table { table.new.slots.now ≡ table_of gathering.now (memory slabs.old) (length sheet.old) table.old.slots.now }
+    ensures sheet { sheet.new ≡ sheet_of gathering.now (memory slabs.old) (length table.old.slots.now) sheet.old }
+    ensures slabs { memories slabs.new.stripes ≡ memories slabs.old.stripes }
     ensures name { table.new.slots.ghost_name ≡ table.old.slots.ghost_name }
 {
-    let first = gather_slab(gathering, 0, &mut slabs.first.bytes, table, sheet);
-    let second = gather_slab(gathering, 1, &mut slabs.second.bytes, table, sheet);
-    let third = gather_slab(gathering, 2, &mut slabs.third.bytes, table, sheet);
-    [first, second, third]
+    let mut tallies = [Tally::default(); 3];
+    for (stripe, slab) in slabs.stripes.iter_mut().enumerate() {
+        tallies[stripe] = gather_slab(gathering, stripe, &mut slab.bytes, table, sheet);
+    }
+    tallies
 }

@@ -30,24 +30,17 @@ fn copy_of(bytes: &Vec<u8>) -> Result<Vec<u8>, AllocError>
     bytes.clone()
 }
 
-// The three slabs of a picture, one for each stripe.
+// The slabs of a picture, one for each stripe.
 #[derive(Clone, Drop)]
 pub struct Slabs {
-    pub first: Slab,
-    pub second: Slab,
-    pub third: Slab,
+    pub stripes: [Slab; 3],
 }
 
 impl Slabs {
     // The slabs of standard input.
     pub fn read(rt: &HostRuntime) -> io::Result<Slabs> {
-        let first = read_slab(rt)?;
-        let second = read_slab(rt)?;
-        let third = read_slab(rt)?;
         Ok(Slabs {
-            first,
-            second,
-            third,
+            stripes: [read_slab(rt)?, read_slab(rt)?, read_slab(rt)?],
         })
     }
 }

@@ -1,5 +1,5 @@
 -- Each block is placed, and what its column carries is read.
-use Rattle.std.proofs.Common.{◌≡◌, ℕ, ◌<◌, true, ltb, List, Ok, arith}
+use Rattle.std.proofs.Common.{◌≡◌, ℕ, ◌<◌, true, ltb, List, Ok, Err, Result, sym, ap, ◌∙◌, arith}
 use Rattle.std.proofs.lemmas.Bool.Decides.{nat_tests}
 use Rattle.column.specs.Column.{carried_rows}
 use Rattle.block.specs.Code.{decoded}
@@ -30,3 +30,11 @@ module _ (f : Format) (first s c rows words : ℕ) (image : List ℕ) (r : Recor
 -- reading is decoding what the column carries
 pub reads_inside : (rows words c : ℕ) (at : ℕ → ℕ → ℕ) → rows ≡ 16 → words ≡ 1440 → c < 45 → reading 4 c rows words at ≡ decoded (carried_rows at c)
 reads_inside rows words c at er ew h = let t : ltb c 45 ≡ true = grind (arith, nat_tests) in rw (er, ew, t)
+
+-- an answer is one value
+abbrev taken : {A B : Type 0} → A → Result A B → A
+taken d (Ok x) = x
+taken d (Err e) = d
+
+pub ok_same : {A B : Type 0} (r : Result A B) (x y : A) → r ≡ Ok x → r ≡ Ok y → x ≡ y
+ok_same r x y p q = ap (taken x) (sym p ∙ q)

@@ -15,11 +15,10 @@ abbrev pub held_in : List (Slot ℕ) → ℕ
 held_in slots = count_by is_held slots
 
 -- how many gathers of the three stripes are accepted, with a table of 135 slots and a sheet of 45
-abbrev pub good_of : List ℕ → List ℕ → List ℕ → ℕ
-good_of first second third =
-    (tally_in bench_picture 0 first 135 45).good + (tally_in bench_picture 1 second 135 45).good + (tally_in bench_picture 2 third 135 45).good
+abbrev pub good_of : (ℕ → List ℕ) → ℕ
+good_of memory =
+    (tally_in bench_picture 0 (memory 0) 135 45).good + (tally_in bench_picture 1 (memory 1) 135 45).good + (tally_in bench_picture 2 (memory 2) 135 45).good
 
--- the accepted gathers of the picture, and the slots held after them
-abbrev pub gathered_of : List ℕ → List ℕ → List ℕ → PictureLine
-gathered_of first second third =
-    record { gathered = good_of first second third; held = held_in (table_of bench_picture first second third 45 (replicate 135 Empty)) }
+-- the accepted gathers of the picture that the memories of the stripes hold, and the slots held after them
+abbrev pub gathered_of : (ℕ → List ℕ) → PictureLine
+gathered_of memory = record { gathered = good_of memory; held = held_in (table_of bench_picture memory 45 (replicate 135 Empty)) }

@@ -1,5 +1,6 @@
 // Gathering what was placed.
 ghost use Rattle.std.specs.Prelude.{◌≡◌, Ok, count_by};
+ghost use Rattle.bench.specs.Memory.{memories, memory};
 ghost use Rattle.carry_picture.specs.Picture.{is_held, held_in, gathered_of};
 
 use crate::line::PictureLine;
@@ -9,8 +10,8 @@ use slots::{Slot, State, Table};
 
 // Gathers the picture that the slabs hold, and counts the gathers that are accepted and the slots that are then held.
 pub(crate) fn gather_line(slabs: &mut Slabs) -> Result<PictureLine, Fault>
-    ensures answer { result ≡ Ok (gathered_of slabs.old.first.bytes.items slabs.old.second.bytes.items slabs.old.third.bytes.items) }
-    ensures slabs { (slabs.new.first.bytes.items ≡ slabs.old.first.bytes.items) × ((slabs.new.second.bytes.items ≡ slabs.old.second.bytes.items) × (slabs.new.third.bytes.items ≡ slabs.old.third.bytes.items)) }
+    ensures answer { result ≡ Ok (gathered_of (memory slabs.old)) }
+    ensures slabs { memories slabs.new.stripes ≡ memories slabs.old.stripes }
 {
     let mut slots = [Slot::Empty; 135];
     let mut sheet = [Slot::Empty; 45];

@@ -37,9 +37,10 @@ fn show(rt: &HostRuntime, carried: &[StripeLine; 3], picture: PictureLine) -> io
 // With a file name as the argument, the slabs are written there.
 fn save(rt: &HostRuntime, slabs: &Slabs) -> anyhow::Result<()> {
     if let Some(name) = env::args(rt)?.nth(1) {
-        let mut bytes = slabs.first.bytes.clone()?;
-        bytes.extend_from_slice(&slabs.second.bytes)?;
-        bytes.extend_from_slice(&slabs.third.bytes)?;
+        let mut bytes = Vec::new(rt.alloc());
+        for slab in &slabs.stripes {
+            bytes.extend_from_slice(&slab.bytes)?;
+        }
         fs::write(rt, name.as_str(), bytes.as_slice())?;
     }
     Ok(())

@@ -1,11 +1,12 @@
 // Placing records on the macroblocks of a picture.
-ghost use Rattle.std.specs.Prelude.{◌≡◌, Ok};
+ghost use Rattle.std.specs.Prelude.{◌≡◌, ℕ, ◌<◌, Ok};
 ghost use Rattle.format.specs.declared.table.Format.TheVariants.{Bench};
+ghost use Rattle.bench.specs.Memory.{memory_in, memory};
 ghost use Rattle.carry_picture.specs.Content.{block_at};
 ghost use Rattle.carry_picture.specs.Stripe.{LadenSlab};
 
 use crate::content::{BlankImage, zero_record};
-use bench::{Slabs, Spot, Stripe, Writer, write_stripe};
+use bench::{Slab, Slabs, Spot, Stripe, Writer, write_stripe};
 use fault::Fault;
 use format::Format;
 use inserter::{Inserter, Picture};
@@ -37,9 +38,7 @@ impl Writer for Placing<'_, '_> {
 // Places a record of zeros on every macroblock of a picture of three slabs, under the blank image.
 pub(crate) fn place_picture(slabs: &mut Slabs) -> Result<(), Fault>
     ensures answer { result ≡ Ok tt }
-    ensures first { LadenSlab 0 slabs.old.first.bytes.items slabs.new.first.bytes.items }
-    ensures second { LadenSlab 1 slabs.old.second.bytes.items slabs.new.second.bytes.items }
-    ensures third { LadenSlab 2 slabs.old.third.bytes.items slabs.new.third.bytes.items }
+    ensures laden { (stripe : ℕ) → stripe < 3 → LadenSlab stripe (memory slabs.old stripe) (memory slabs.new stripe) }
 {
     let image = BlankImage::new();
     let mut inserter = Inserter::new(Format::Bench.number(), 0)?;
@@ -48,20 +47,18 @@ pub(crate) fn place_picture(slabs: &mut Slabs) -> Result<(), Fault>
         picture: &picture,
         image: &image,
     };
-    place_stripes(&placing, slabs)?;
+    place_stripes(&placing, &mut slabs.stripes)?;
     picture.close();
     Ok(())
 }
 
 // Each stripe in its slab.
-fn place_stripes(placing: &Placing<'_, '_>, slabs: &mut Slabs) -> Result<(), Fault>
+fn place_stripes(placing: &Placing<'_, '_>, slabs: &mut [Slab; 3]) -> Result<(), Fault>
     ensures answer { result ≡ Ok tt }
-    ensures first { LadenSlab 0 slabs.old.first.bytes.items slabs.new.first.bytes.items }
-    ensures second { LadenSlab 1 slabs.old.second.bytes.items slabs.new.second.bytes.items }
-    ensures third { LadenSlab 2 slabs.old.third.bytes.items slabs.new.third.bytes.items }
+    ensures laden { (stripe : ℕ) → stripe < 3 → LadenSlab stripe (memory_in slabs.old stripe) (memory_in slabs.new stripe) }
 {
-    write_stripe(placing, &mut slabs.first, Stripe { number: 0 })?;
-    write_stripe(placing, &mut slabs.second, Stripe { number: 1 })?;
-    write_stripe(placing, &mut slabs.third, Stripe { number: 2 })?;
+    for (number, slab) in slabs.iter_mut().enumerate() {
+        write_stripe(placing, slab, Stripe { number })?;
+    }
     Ok(())
 }

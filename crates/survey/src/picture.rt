@@ -1,5 +1,6 @@
 // Gathering a picture of three slabs.
 ghost use Rattle.std.specs.Prelude.{◌≡◌, length, Ok};
+ghost use Rattle.bench.specs.Memory.{memories, memory};
 ghost use Rattle.survey.specs.Picture.{surveyed, surveyed_by};
 
 use crate::report::Survey;
@@ -12,8 +13,8 @@ use slots::{Slot, Table};
 
 // Gathers the macroblocks in order of position from reference 0, and asks for the image. The sheet serves one stripe after the other.
 pub(crate) fn survey_picture(slabs: &mut Slabs) -> Result<Survey, Fault>
-    ensures answer { result ≡ Ok (surveyed slabs.old.first.bytes.items slabs.old.second.bytes.items slabs.old.third.bytes.items) }
-    ensures slabs { (slabs.new.first.bytes.items ≡ slabs.old.first.bytes.items) × ((slabs.new.second.bytes.items ≡ slabs.old.second.bytes.items) × (slabs.new.third.bytes.items ≡ slabs.old.third.bytes.items)) }
+    ensures answer { result ≡ Ok (surveyed (memory slabs.old)) }
+    ensures slabs { memories slabs.new.stripes ≡ memories slabs.old.stripes }
 {
     let mut slots = [Slot::Empty; 135];
     let mut sheet = [Slot::Empty; 45];
@@ -29,8 +30,8 @@ fn survey_stripes(
     sheet: &mut [Slot<Record>],
 ) -> Survey
     requires { (length table.old.slots.now ≡ 135) × (length sheet.old ≡ 45) }
-    ensures answer { result ≡ surveyed_by gathering.now slabs.old.first.bytes.items slabs.old.second.bytes.items slabs.old.third.bytes.items table.old.slots.now }
-    ensures slabs { (slabs.new.first.bytes.items ≡ slabs.old.first.bytes.items) × ((slabs.new.second.bytes.items ≡ slabs.old.second.bytes.items) × (slabs.new.third.bytes.items ≡ slabs.old.third.bytes.items)) }
+    ensures answer { result ≡ surveyed_by gathering.now (memory slabs.old) table.old.slots.now }
+    ensures slabs { memories slabs.new.stripes ≡ memories slabs.old.stripes }
     ensures name { table.new.slots.ghost_name ≡ table.old.slots.ghost_name }
 {
     let tallies = gather_picture(gathering, slabs, table, sheet);
