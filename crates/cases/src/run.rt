@@ -1,5 +1,5 @@
 // A program of cases: each line of standard input is one, and its first word is its kind.
-ghost use Rattle.std.specs.Prelude.{List, ℕ, Result, IfOk, IfSome, OnOk, map, string_bytes};
+ghost use Rattle.std.specs.Prelude.{List, ℕ, [], ◌∷◌, ◌++◌, Result, IfOk, IfSome, OnOk, map};
 ghost use Rattle.std.specs.declared.string.String.{String};
 ghost use Rattle.std.specs.declared.alloc.Global.{Global};
 ghost use Rattle.std.specs.Io.KnownBytes.{Appends};
@@ -39,16 +39,22 @@ pub fn answer_all<K: Kinds, R: BufRead + Drop, W: Write>(
 {
     for line in input.lines(heap) {
         let text = line?;
-        let answer = answered(heap, text.as_str(), kinds)?;
-        writeln!(output, "{answer}")?;
+        answer_line(heap, kinds, text.as_str(), output)?;
     }
     Ok(())
 }
 
-fn answered<K: Kinds>(heap: Global, line: &str, kinds: &K) -> anyhow::Result<String>
-    ensures { IfOk result (λ text. (answer : Result (String Global) Stop) × AnswersLine (K.answers kinds.now) line.now answer × IsTextOf answer (string_bytes text)) }
+fn answer_line<K: Kinds, W: Write>(
+    heap: Global,
+    kinds: &K,
+    line: &str,
+    output: &mut W,
+) -> anyhow::Result<()>
+    ensures { OnOk result ((answer : Result (String Global) Stop) × (text : List ℕ) × AnswersLine (K.answers kinds.now) line.now answer × IsTextOf answer text × Appends (W.contents output.old) (W.contents output.new) (text ++ 10 ∷ [])) }
 {
-    told(heap, answer_of(heap, line, kinds))
+    let answer = told(heap, answer_of(heap, line, kinds))?;
+    writeln!(output, "{answer}")?;
+    Ok(())
 }
 
 fn answer_of<K: Kinds>(heap: Global, line: &str, kinds: &K) -> Result<String, Stop>

@@ -1,5 +1,5 @@
 -- The states of the generator, one by one.
-use Rattle.std.proofs.Common.{◌≡◌, ℕ, zero, suc, ◌-◌, ◌<◌, List, [], ◌∷◌, refl, arith}
+use Rattle.std.proofs.Common.{◌≡◌, ℕ, zero, suc, ◌-◌, ◌<◌, [], ◌∷◌, refl, arith}
 use Rattle.vectors_whole.specs.Seeds.{next_state, states_after}
 
 pub states_none : (count state : ℕ) → count ≡ 0 → states_after count state ≡ []

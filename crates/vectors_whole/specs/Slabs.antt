@@ -1,5 +1,5 @@
 -- What memory a slab of a case is in.
-use Rattle.std.specs.Prelude.{◌≡◌, ℕ, ◌*◌, ◌/◌, List, length}
+use Rattle.std.specs.Prelude.{◌≡◌, ℕ, ◌*◌, ◌/◌, length}
 use Rattle.raster.specs.declared.extent.Extent.{Extent}
 use Rattle.buffer.specs.Size.{cells_of, bytes_of, granted}
 use Rattle.buffer.specs.Cells.{word_at}

@@ -14,13 +14,13 @@ pub loop-line-preserved : goal.loop-line-preserved
 loop-line-preserved g c =
     let line = string_bytes c.in_ok-text.text in
     let read = rw c.in_ok-text.was at c.in-Some.ensures.steps.1 in
-    let said = c.in_ok-answer.ensures in
+    let said = c.in_ok-answer_line.ensures in
     answered_more (g.K.Kinds.answers c.args.kinds.now) (g.R.Read.remaining c.args.input)
     (lines_known_bytes g.R.Read.remaining c.loop-line.line-iterator) (lines_known_bytes g.R.Read.remaining c.next.new.self)
-    (g.W.Write.contents c.args.output.now) (g.W.Write.contents c.loop-line.output) (g.W.Write.contents c.writeln.new.self)
-    line (string_bytes c.in_ok-answer.answer) said.0 c.loop-line.invariant read.0 read.1
-    (subst (λ text. AnswersLine (g.K.Kinds.answers c.args.kinds.now) text said.0) c.as_str.ensures.value said.1)
-    said.2 c.in_ok-writeln.ensures.bytes
+    (g.W.Write.contents c.args.output.now) (g.W.Write.contents c.loop-line.output) (g.W.Write.contents c.answer_line.new.output)
+    line said.1 said.0 c.loop-line.invariant read.0 read.1
+    (subst (λ text. AnswersLine (g.K.Kinds.answers c.args.kinds.now) text said.0) c.as_str.ensures.value said.2)
+    said.3 said.4
 
 pub returns : goal.returns
 returns g c =
