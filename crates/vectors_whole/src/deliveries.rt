@@ -5,19 +5,19 @@ ghost use Rattle.image.specs.Elements.{element_at};
 ghost use Rattle.extractor.specs.Delivery.{delivering};
 
 use crate::images::{Change, element_in, last_element, mend};
-use crate::tables::{Offer, empties};
+use crate::tables::Offer;
 use cases::{Refusal, Stop, Words, parsed};
 use extractor::deliver;
 use fault::Fault;
 use image::SealedImage;
-use slots::Table;
+use slots::{Table, empty_slots};
 use std::alloc::Global;
 use std::fmt;
 use std::str::FromStr;
 
 // What deliver answers over the blank image, and the check that the image has then.
 pub fn deliver_case(heap: Global, case: &mut Words<'_>) -> Result<String, Stop> {
-    let mut slots = empties::<u32>(heap, case.take()?)?;
+    let mut slots = empty_slots(heap, usize::from(case.take::<u16>()?))?;
     let mut table = Table::new(&mut slots);
     let mut bytes = *SealedImage::blank().bytes();
     for word in case.rest() {

@@ -1,6 +1,6 @@
 // Answers about gathering: rows are embedded in columns of a slab, and macroblocks are gathered.
 use crate::memory::{OnSlab, SlabCase};
-use crate::tables::{Offer, Shown, add_slots, empties};
+use crate::tables::{Offer, Shown, add_slots};
 use crate::told::Told;
 use anyhow::Context;
 use block::encode;
@@ -9,9 +9,10 @@ use column::embed;
 use crc::check;
 use extractor::{Gathering, start};
 use fault::Fault;
+use format::ELEMENTS;
 use raster::Raster;
 use record::{Block, PictureFlags, Record};
-use slots::Table;
+use slots::{Slot, Table, empty_slots};
 use std::alloc::Global;
 use std::fmt;
 use std::fmt::Write;
@@ -21,7 +22,7 @@ use std::str::FromStr;
 pub fn start_case(heap: Global, case: &mut Words<'_>) -> Result<String, Stop> {
     let number = case.take()?;
     let first = case.take()?;
-    let mut slots = empties::<u32>(heap, case.take()?)?;
+    let mut slots = empty_slots(heap, usize::from(case.take::<u16>()?))?;
     let mut table = Table::new(&mut slots);
     for word in case.rest() {
         parsed::<Offer>(word)?.make(&mut table)?;
@@ -62,7 +63,7 @@ impl<'a> Run<'a> {
             heap,
             slots: case.take()?,
             lines: case.take()?,
-            gathering: started(heap, number, first)?,
+            gathering: started(number, first)?,
             steps: case.rest(),
         })
     }
@@ -95,8 +96,8 @@ impl OnSlab for Run<'_> {
     type Said = Result<String, Stop>;
 
     fn on<R: Raster>(self, slab: &mut R) -> Result<String, Stop> {
-        let mut slots = empties::<u32>(self.heap, self.slots)?;
-        let mut lines = empties::<Record>(self.heap, self.lines)?;
+        let mut slots = empty_slots(self.heap, usize::from(self.slots))?;
+        let mut lines = empty_slots(self.heap, usize::from(self.lines))?;
         let mut table = Table::new(&mut slots);
         let mut sheet = Table::new(&mut lines);
         let mut line = String::from_str(self.heap, "gather")?;
@@ -110,10 +111,10 @@ impl OnSlab for Run<'_> {
 }
 
 // A gathering that is started on a table of its own.
-fn started(heap: Global, number: u32, first: u32) -> Result<Gathering, Stop> {
-    let mut slots = empties::<u32>(heap, 135)?;
+fn started(number: u32, first: u32) -> Result<Gathering, Fault> {
+    let mut slots = [Slot::Empty; ELEMENTS];
     let mut table = Table::new(&mut slots);
-    Ok(start(number, first, &mut table)?)
+    start(number, first, &mut table)
 }
 
 // Embeds rows, as in 7=F800.., or gathers a macroblock, as in 2:7.

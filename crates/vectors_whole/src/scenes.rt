@@ -3,16 +3,17 @@
 use crate::deliveries::Delivered;
 use crate::images::{Change, data_in};
 use crate::memory::{OnSlab, SlabCase};
-use crate::tables::{States, empties};
+use crate::tables::States;
 use anyhow::{Context, anyhow};
 use cases::{Stop, Words, parsed};
 use extractor::{Gathering, start};
 use fault::Fault;
+use format::ELEMENTS;
 use image::SealedImage;
 use inserter::{Inserter, Picture};
 use raster::Raster;
 use record::Record;
-use slots::Table;
+use slots::{Slot, Table, empty_slots};
 use std::alloc::{AllocError, Global};
 use std::collections::BTreeMap;
 use std::fmt;
@@ -50,8 +51,8 @@ impl<'a> Scene<'a> {
     }
 
     fn run<R: Raster>(&self, picture: &Picture<'_>, slab: &mut R) -> Result<String, Stop> {
-        let mut slots = empties::<u32>(self.heap, 135)?;
-        let mut lines = empties::<Record>(self.heap, self.lines)?;
+        let mut slots = [Slot::Empty; ELEMENTS];
+        let mut lines = empty_slots(self.heap, usize::from(self.lines))?;
         let mut table = Table::new(&mut slots);
         let mut sheet = Table::new(&mut lines);
         let gathering = start(self.number, self.gathered, &mut table)?;

@@ -1,22 +1,20 @@
 // Answers about slots: a word for each step on a table of empty slots.
-ghost use Rattle.std.specs.Prelude.{◌≡◌, ℕ, ◌<◌, IfOk, length, nat_eq, slice_index_or, vec_len};
-ghost use Rattle.slots.specs.declared.slot.Slot.TheVariants.{Empty};
+ghost use Rattle.std.specs.Prelude.{◌≡◌, length, nat_eq};
 ghost use Rattle.slots.specs.Slots.{numbered, offered_at, same_state, state_of};
 ghost use Rattle.vectors_whole.specs.States.{slots_in};
 
 use crate::told::Told;
 use anyhow::Context;
 use cases::{Stop, Words, parsed};
-use exact::Exact;
 use fault::Fault;
-use slots::{Slot, State, Table};
+use slots::{Slot, State, Table, empty_slots};
 use std::alloc::Global;
 use std::fmt;
 use std::fmt::Write;
 use std::str::FromStr;
 
 pub fn slots_case(heap: Global, case: &mut Words<'_>) -> Result<String, Stop> {
-    let mut slots = empties::<u32>(heap, case.take()?)?;
+    let mut slots = empty_slots(heap, usize::from(case.take::<u16>()?))?;
     let mut table = Table::new(&mut slots);
     let mut line = String::from_str(heap, "slots")?;
     for word in case.rest() {
@@ -25,14 +23,6 @@ pub fn slots_case(heap: Global, case: &mut Words<'_>) -> Result<String, Stop> {
         write!(line, " {said}")?;
     }
     Ok(line)
-}
-
-// So many empty slots.
-pub fn empties<V: Exact + Copy>(heap: Global, length: u16) -> anyhow::Result<Vec<Slot<V>>>
-    ensures len { IfOk result (λ v. vec_len v ≡ length) }
-    ensures empty { IfOk result (λ v. (k : ℕ) → k < length → slice_index_or v.items k Empty ≡ Empty) }
-{
-    Ok(vec![in heap; Slot::Empty; usize::from(length)]?)
 }
 
 // An offer such as 5=70.

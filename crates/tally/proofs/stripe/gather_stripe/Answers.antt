@@ -15,7 +15,6 @@ loop-column-init g c =
     let none : c.default-tally.result ≡ record { good = 0; foreign = 0; bad = 0 } = λ i. record { good = d.0 i; foreign = d.1.0 i; bad = d.1.1 i } in
     (none ∙ sym (tallied_none answers), sym (elements_none answers c.args.stripe slots), sym (records_none answers sheet), refl, refl, refl, refl)
 
-
 pub loop-column-preserved : goal.loop-column-preserved
 loop-column-preserved g c =
     let m = g.R.Raster in
