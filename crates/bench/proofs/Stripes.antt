@@ -27,9 +27,6 @@ all_counted p a (suc n) h =
     sum_by-cons (λ x. cond (p x) 1 0) a (range_with_len (a + 1) n) ∙ omega (arith, first, rest)
 
 module _ (block : ℕ → ℕ → Block) where
-  pub none_laden : (stripe words : ℕ) (at : ℕ → ℕ → ℕ) → Laden block stripe words 0 at at
-  none_laden stripe words at = record { reads = λ c h. absurd (omega arith); upper = λ i j hi hj. refl; luma = λ i j hi hj h. refl; rest = λ i j hi hj h. refl }
-
   -- column n is written next
   pub one_laden : (stripe words n : ℕ) (at₀ at₁ at₂ : ℕ → ℕ → ℕ) → 32 * n + 32 ≤ words → Laden block stripe words n at₀ at₁ → Written block stripe n words at₁ at₂ → Laden block stripe words (n + 1) at₀ at₂
   one_laden stripe words n at₀ at₁ at₂ wide before now = record {

@@ -50,7 +50,7 @@ impl fmt::Display for PictureLine {
     }
 }
 
-// A line for each stripe, and one for the picture.
+// A line for each stripe, and one for the picture. The stripes go by number: a loop would want an invariant of all that the formatter wrote.
 impl fmt::Display for Survey {
     ghost output = { λ s. Some (survey_text s) };
 

@@ -1,9 +1,6 @@
 use Rattle.std.proofs.Common.{rules}
-use Rattle.bench.proofs.Stripes.{none_laden, one_laden}
+use Rattle.bench.proofs.Stripes.{one_laden}
 use Rattle.bench.proofs.carry.write_columns.Goals as goal
-
-pub loop-column-init : goal.loop-column-init
-loop-column-init g c = (g.R.Raster.still c.args.slab.now, none_laden g.W.Writer.block c.args.stripe.number 1440 (g.R.Raster.at c.args.slab.now))
 
 pub loop-column-preserved : goal.loop-column-preserved
 loop-column-preserved g c =
