@@ -1,6 +1,7 @@
 // Answers about picture images.
-ghost use Rattle.std.specs.Prelude.{◌≡◌, ◌<◌, ◌↔◌, length, bit_xor, is_ok, slice_index, slice_set, if◌then◌else◌, IsOk, Some};
+ghost use Rattle.std.specs.Prelude.{◌≡◌, ◌<◌, ◌↔◌, length, bit_xor, is_ok, slice_index, slice_set, if◌then◌else◌, IsOk, IfOk, Some, take};
 ghost use Rattle.image.specs.Elements.{element_at};
+ghost use Rattle.image.specs.Image.{with_check};
 
 use anyhow::{Context, ensure};
 use cases::{Refusal, Stop, Words, parsed};
@@ -61,7 +62,9 @@ pub fn image_of(heap: Global, words: &[&str]) -> Result<SealedImage, Stop> {
 }
 
 // The data of an image, which is all but its check.
-pub fn data_in(heap: Global, image: &SealedImage) -> anyhow::Result<Vec<u8>> {
+pub fn data_in(heap: Global, image: &SealedImage) -> anyhow::Result<Vec<u8>>
+    ensures { IfOk result (λ kept. kept.items ≡ take 536 image.now.bytes) }
+{
     Ok(image.bytes()[..536].to_vec(heap)?)
 }
 
@@ -73,7 +76,10 @@ pub fn last_element(image: &SealedImage) -> u32
 }
 
 // Puts in the check that fits.
-pub fn mend(bytes: &mut [u8; 540]) {
+#[tactic(auto, unfolding(image::specs::Image::with_check))]
+pub fn mend(bytes: &mut [u8; 540])
+    ensures { bytes.new ≡ with_check (take 536 bytes.old) }
+{
     let (data, check) = bytes.split_at_mut(536);
     check.copy_from_slice(&crc::check(data).to_be_bytes());
 }
