@@ -63,5 +63,5 @@ module _ {F B E : Type 0} (g : Mut F (B × (ℕ × Unit {0})) (Result B E)) (f :
       → ((k : ℕ) → Broken k → (v : Result B E) × (s : F) × (e : E) × Called g q (a, (k, tt)) v s × (v ≡ Err e)) → r ≡ Ok (h n)
   folded r xs o u q a Broken y t m broke =
       let w = unbroken (TryFoldTurn g (λ r c. r ≡ result_from_control_flow c)) Kept n keeps xs o u (f, init) (q, a) _ Broken (refl, none) y t m
-          (λ k l j b. let s = broke k b in subst (λ v. IfErr v (λ _. ⊥)) (sym (called (q, a) k s.0 s.1 l j s.3).1 ∙ s.4) tt) in
+      (λ k l j b. let s = broke k b in subst (λ v. IfErr v (λ _. ⊥)) (sym (called (q, a) k s.0 s.1 l j s.3).1 ∙ s.4) tt) in
       w.1 ∙ ap Ok w.0.1

@@ -11,12 +11,7 @@ pub fn count_differing<P: Raster, Q: Raster>(a: &P, b: &Q) -> Result<u128, Fault
 {
     let left = a.extent();
     let right = b.extent();
-    differing_in_rows(
-        a,
-        b,
-        left.rows.min(right.rows),
-        left.words.min(right.words),
-    )
+    differing_in_rows(a, b, left.rows.min(right.rows), left.words.min(right.words))
 }
 
 // How many words differ, of the first rows, of so many words each.

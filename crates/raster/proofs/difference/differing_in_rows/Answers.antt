@@ -10,7 +10,7 @@ try_fold-requires-clause-callable g c =
     let b = g.Q.Raster.at c.args.b.now in
     let words = c.args.words in
     callable_in_try _ _ (λ k. differing a b k words) 0 (sym (rows_none a b words)) _ (λ k v q l t. let more = rows_more a b k words in search rules)
-        (λ k l. let few = rows_at_most a b k words in let here = words_at_most (a k) (b k) words in search rules)
+    (λ k l. let few = rows_at_most a b k words in let here = words_at_most (a k) (b k) words in search rules)
 
 pub returns : goal.returns
 returns g c =
