@@ -4,11 +4,6 @@ use Rattle.slots.specs.declared.slot.Slot.TheVariants.{Empty}
 use Rattle.bench.specs.Gather.{bench_picture}
 use Rattle.survey.proofs.picture.survey_picture.Goals as goal
 
-pub survey_stripes-requires : goal.survey_stripes-requires
-survey_stripes-requires c =
-    let empty : c.start_picture.new.table.slots.now ≡ replicate 135 Empty = search rules in
-    (search (rules, empty), search rules)
-
 pub returns-clause-answer : goal.returns-clause-answer
 returns-clause-answer c =
     let is : c.in_ok-gathering.gathering ≡ bench_picture = search rules in
