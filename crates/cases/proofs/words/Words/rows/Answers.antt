@@ -1,4 +1,4 @@
-use Rattle.std.proofs.Common.{◌∙◌, arith}
+use Rattle.std.proofs.Common.{◌∙◌, ◌++◌, take, arith, sym, ap, map, pos, take_all, append-nil}
 use Rattle.cases.specs.Words.{left}
 use Rattle.cases.proofs.Spelling.{rows_spelt, rows_numbers, rows_after, rows_whole}
 use Rattle.cases.proofs.words.Words.rows.Goals as goal
@@ -23,3 +23,8 @@ pub returns-clause-accepts : goal.returns-clause-accepts
 returns-clause-accepts c =
     let whole = rows_whole _ (left c.loop-row.self) c.loop-row-test.false in
     grind (arith, whole)
+
+pub returns-clause-rows : goal.returns-clause-rows
+returns-clause-rows c =
+    let whole = rows_whole _ (left c.loop-row.self) c.loop-row-test.false in
+    sym (c.loop-row.invariant.numbers ∙ ap (λ ns. map pos (take c.loop-row.row-index c.loop-row.row-items) ++ ns) whole.1 ∙ append-nil _ ∙ ap (map pos) (take_all _ _ (omega arith)))
