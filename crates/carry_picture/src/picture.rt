@@ -23,7 +23,8 @@ pub(crate) fn carry_picture(input: &mut Slabs, slabs: &mut Slabs) -> Result<[Str
     stripe_lines(&image, &mut input.stripes, &mut slabs.stripes)
 }
 
-// The line of each stripe, where all macroblocks carry their blocks.
+// The line of each stripe, where all macroblocks carry their blocks. It takes arrays, since the proof knows no length of an array behind a
+// field, and goes by number, since by `zip` it does not find that the number is below 3.
 fn stripe_lines(
     image: &BlankImage,
     input: &mut [Slab; 3],

@@ -52,7 +52,7 @@ pub(crate) fn place_picture(slabs: &mut Slabs) -> Result<(), Fault>
     Ok(())
 }
 
-// Each stripe in its slab.
+// Each stripe in its slab. It takes an array, since the proof knows no length of one behind a field.
 fn place_stripes(placing: &Placing<'_, '_>, slabs: &mut [Slab; 3]) -> Result<(), Fault>
     ensures answer { result ≡ Ok tt }
     ensures laden { (stripe : ℕ) → stripe < 3 → LadenSlab stripe (memory_in slabs.old stripe) (memory_in slabs.new stripe) }
