@@ -1,5 +1,5 @@
 -- The memories of slabs, one of which is set.
-use Rattle.std.proofs.Common.{◌≡◌, ℕ, zero, suc, ◌<◌, List, [], ◌∷◌, length, slice_index_or, slice_set, refl, ◌∙◌, arith, ◌≢◌}
+use Rattle.std.proofs.Common.{◌≡◌, ℕ, zero, suc, ◌<◌, List, [], ◌∷◌, length, slice_index_or, slice_set, refl, arith, ◌≢◌}
 use Rattle.bench.specs.declared.slabs.Slab.{Slab}
 use Rattle.bench.specs.Memory.{memories}
 

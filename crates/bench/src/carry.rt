@@ -20,16 +20,15 @@ use raster::Raster;
 use record::Block;
 
 // A call that writes the block of each macroblock of the bench picture.
-// The extent is asked of the raster that is lent: a type with that fact would be one more raster over a raster.
+// What it promises is of a raster of 16 rows and 1440 words.
 pub trait Writer {
     // The block of a stripe and a column.
     ghost block: { ℕ → ℕ → Block };
 
     fn write<R: Raster>(&self, slab: &mut R, spot: Spot) -> Result<(), Fault>
-        requires { (R.Raster.rows slab.old ≡ 16) × (R.Raster.words slab.old ≡ 1440) }
-        ensures answer { result ≡ Ok tt }
+        ensures answer { R.Raster.rows slab.old ≡ 16 → R.Raster.words slab.old ≡ 1440 → result ≡ Ok tt }
         ensures kept { R.Raster.kept slab.old slab.new }
-        ensures one { Written block spot.stripe.number spot.column 1440 (R.Raster.at slab.old) (R.Raster.at slab.new) };
+        ensures one { R.Raster.rows slab.old ≡ 16 → R.Raster.words slab.old ≡ 1440 → Written block spot.stripe.number spot.column 1440 (R.Raster.at slab.old) (R.Raster.at slab.new) };
 }
 
 // A call that reads a macroblock of the bench picture, and the block that it is to answer.
@@ -41,8 +40,7 @@ pub trait Reader {
         ensures { result ≡ block spot.stripe.number spot.column };
 
     fn read<R: Raster>(&self, slab: &R, spot: Spot) -> Result<Block, Fault>
-        requires { (R.Raster.rows slab.now ≡ 16) × (R.Raster.words slab.now ≡ 1440) }
-        ensures { result ≡ decoded (carried_rows (R.Raster.at slab.now) spot.column) };
+        ensures { R.Raster.rows slab.now ≡ 16 → R.Raster.words slab.now ≡ 1440 → result ≡ decoded (carried_rows (R.Raster.at slab.now) spot.column) };
 }
 
 // Writes each macroblock's block.
