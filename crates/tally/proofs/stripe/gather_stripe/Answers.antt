@@ -15,6 +15,17 @@ loop-column-init g c =
     let none : c.default-tally.result ≡ record { good = 0; foreign = 0; bad = 0 } = λ i. record { good = d.0 i; foreign = d.1.0 i; bad = d.1.1 i } in
     (none ∙ sym (tallied_none answers), sym (elements_none answers c.args.stripe slots), sym (records_none answers sheet), refl, refl, refl, refl)
 
+pub told-tally-requires : goal.told-tally-requires
+told-tally-requires g c =
+    let m = g.R.Raster in
+    let slab = c.args.slab.now in
+    let answers = λ (k : ℕ). gathered c.args.gathering.now c.args.stripe k (m.rows slab) (m.words slab) (m.at slab) (length c.args.table.now.slots.now) (length c.args.sheet.now.slots.now) in
+    let n = c.loop-column.column in
+    let t = c.loop-column.invariant.0 in
+    let good : c.loop-column.tally.good ≤ n = rw t (count_below answers Good n) in
+    let foreign : c.loop-column.tally.foreign ≤ n = rw t (count_below answers Foreign n) in
+    let bad : c.loop-column.tally.bad ≤ n = rw t (count_below answers Bad n) in
+    (omega arith, (omega arith, omega arith))
 
 pub loop-column-preserved : goal.loop-column-preserved
 loop-column-preserved g c =
