@@ -3,7 +3,8 @@ ghost use Rattle.std.specs.Prelude.{◌≡◌, ℕ, ◌+◌, ◌*◌, ◌/◌, �
 ghost use Rattle.raster.specs.Difference.{differing};
 ghost use Rattle.column.specs.Column.{within, carrying, embedded, carried_rows};
 ghost use Rattle.block.specs.Code.{rows_of, decoded};
-ghost use Rattle.block.specs.Slab.{done, writable, readable};
+ghost use Rattle.fault.specs.Refusing.{done};
+ghost use Rattle.block.specs.Slab.{writable, readable};
 
 use crate::code::{decode, encode};
 use column::{carried, check_column, embed};

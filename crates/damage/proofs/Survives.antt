@@ -7,6 +7,7 @@ use Rattle.std.proofs.lemmas.List.FromFn.{fill_by_all}
 use Rattle.std.specs.List.{range_with_len}
 use Rattle.fault.specs.declared.Fault.{Fault}
 use Rattle.fault.specs.declared.Fault.TheVariants.{FirstReference, Length, SlabExtent, FrameOrField, UnexpectedReference, EmptySlot, DisputedSlot, NotInFormat}
+use Rattle.fault.specs.Refusing.{refuse, then, done}
 use Rattle.column.specs.Column.{carried_rows}
 use Rattle.record.specs.declared.record.Record.{Record}
 use Rattle.record.specs.declared.record.Block.{Block}
@@ -17,8 +18,7 @@ use Rattle.std.proofs.lemmas.Bool.Decides.{Decides-eqb}
 use Rattle.slots.specs.Slots.{state_of, place_of, offered, offered_at, cleared, lowest_in}
 use Rattle.slots.proofs.Offering.{settled as offer-settles}
 use Rattle.slots.proofs.Searching.{lowest_is}
-use Rattle.block.specs.Code.{refuse, then, decoded}
-use Rattle.block.specs.Slab.{done}
+use Rattle.block.specs.Code.{decoded}
 use Rattle.format.specs.declared.table.Format.{Format}
 use Rattle.format.specs.Formats.{number_of, columns_of, stripes_of, carriers_of, frame_of, accepted, is_slab, in_format, reference_of, index_of, element_count}
 use Rattle.format.specs.Carriers.{count}

@@ -8,6 +8,7 @@ use Rattle.std.proofs.lemmas.List.Elements.{filter-append}
 use Rattle.std.proofs.ByRecursion.{kept_by_passes, All-weaker}
 use Rattle.std.specs.List.{AllByRecursion}
 use Rattle.fault.specs.declared.Fault.TheVariants.{FirstReference, Length}
+use Rattle.fault.specs.Refusing.{refuse, then, done}
 use Rattle.crc.specs.Register as Register
 use Rattle.column.specs.Scramble.{parity, unscrambled}
 use Rattle.column.specs.Column.{spelled as spelled-in, carried_row, carried_rows}
@@ -16,8 +17,6 @@ use Rattle.column.proofs.Spelled.{spelled_more, spelled_like, carried_row_lem}
 use Rattle.record.specs.declared.record.Record.{Record}
 use Rattle.record.specs.Rules.{checked, fits_widths, keeps_rules}
 use Rattle.slots.specs.declared.slot.Slot.TheVariants.{Empty}
-use Rattle.block.specs.Code.{refuse, then}
-use Rattle.block.specs.Slab.{done}
 use Rattle.format.specs.declared.table.Format.{Format}
 use Rattle.format.specs.declared.table.Format.TheVariants.{Frame1080, Field1080, Frame720, Bench}
 use Rattle.format.specs.Formats.{number_of, columns_of, stripes_of, carriers_of, frame_of, macroblocks_of, position_of, accepted, is_slab, in_format, index_of, element_count}

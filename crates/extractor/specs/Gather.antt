@@ -2,13 +2,14 @@
 use Rattle.std.specs.Prelude.{ℕ, not, List, Ok, Err, Result, ◌==◌, nat_eq, nat_lt}
 use Rattle.fault.specs.declared.Fault.{Fault}
 use Rattle.fault.specs.declared.Fault.TheVariants.{FirstReference, Length, SlabExtent, FrameOrField, UnexpectedReference}
+use Rattle.fault.specs.Refusing.{refuse, then}
 use Rattle.column.specs.Column.{carried_rows}
 use Rattle.record.specs.declared.record.Record.{Record}
 use Rattle.record.specs.declared.record.Block.{Block}
 use Rattle.record.specs.Equality.{is_same_record}
 use Rattle.slots.specs.declared.slot.Slot.{Slot}
 use Rattle.slots.specs.Slots.{offered_at}
-use Rattle.block.specs.Code.{refuse, then, decoded}
+use Rattle.block.specs.Code.{decoded}
 use Rattle.format.specs.Formats.{accepted, columns_of, frame_of, is_slab, within, reference_of, index_of, element_count}
 use Rattle.inserter.specs.Place.{agrees}
 use Rattle.extractor.specs.declared.gathering.Gathering.{Gathering}

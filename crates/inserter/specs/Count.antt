@@ -2,7 +2,7 @@
 use Rattle.std.specs.Prelude.{ℕ, Ok, Result, nat_lt}
 use Rattle.fault.specs.declared.Fault.{Fault}
 use Rattle.fault.specs.declared.Fault.TheVariants.{FirstReference}
-use Rattle.block.specs.Code.{refuse, then}
+use Rattle.fault.specs.Refusing.{refuse, then}
 use Rattle.format.specs.declared.table.Format.{Format}
 use Rattle.format.specs.Formats.{accepted}
 

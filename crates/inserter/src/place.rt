@@ -3,7 +3,7 @@ ghost use Rattle.std.specs.Prelude.{◌≡◌, ℕ, ◌+◌, ◌*◌, ◌/◌, �
 ghost use Rattle.raster.specs.Difference.{differing};
 ghost use Rattle.column.specs.Column.{carrying, carried_rows};
 ghost use Rattle.block.specs.Code.{decoded};
-ghost use Rattle.block.specs.Slab.{done};
+ghost use Rattle.fault.specs.Refusing.{done};
 ghost use Rattle.inserter.specs.Place.{flags_of, block_for, placing, placed_at, Ready};
 
 use crate::Picture;
