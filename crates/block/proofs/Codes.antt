@@ -7,6 +7,7 @@ pub use Rattle.std.proofs.lemmas.Bool.{not-false}
 use Rattle.std.proofs.ByRecursion.{All-from_get_or, All-get_or}
 use Rattle.fault.specs.declared.Fault.{Fault}
 use Rattle.fault.specs.declared.Fault.TheVariants.{ReferenceRange}
+use Rattle.fault.specs.Refusing.{refuse, then}
 use Rattle.crc.specs.Burst.{Rows, CheckFits, with_check}
 use Rattle.crc.proofs.Bursts.{fitting_decides, burst_never_passes, checked_fits}
 use Rattle.crc.proofs.Laws.{first_rows, checked_from_fits}
@@ -15,7 +16,7 @@ use Rattle.record.specs.Layout.{data_rows, block_of, has_sync, reserved_clear}
 use Rattle.record.specs.Rules.{fits_widths, keeps_rules, checked}
 use Rattle.record.specs.Laws.{Formed}
 use Rattle.record.proofs.Undoing.{encoding_undoes, decoding_undoes}
-use Rattle.block.specs.Code.{refuse, then, rows_of, encoded, block_in, decoded, WellFormed, NoneNear, OnlyThese}
+use Rattle.block.specs.Code.{rows_of, encoded, block_in, decoded, WellFormed, NoneNear, OnlyThese}
 
 -- a test that refuses was passed
 pub passed : {A : Type 0} (test : Bool) (fault : Fault) (rest : Result A Fault) → is_ok (refuse test fault rest) ≡ true → (test ≡ false) × (is_ok rest ≡ true)

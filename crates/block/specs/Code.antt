@@ -1,16 +1,12 @@
 -- A block as 16 rows of 16 bits: 14 data rows and the check over them, the high half first.
-use Rattle.std.specs.Prelude.{◌≡◌, ℕ, ◌≤◌, Bool, true, false, cond, not, List, take, is_ok, Ok, Err, Result, ◌≢◌, nat_lt}
+use Rattle.std.specs.Prelude.{◌≡◌, ℕ, ◌≤◌, true, false, not, List, take, is_ok, Ok, Result, ◌≢◌, nat_lt}
 use Rattle.fault.specs.declared.Fault.{Fault}
 use Rattle.fault.specs.declared.Fault.TheVariants.{Sync, BlockCheck, ReservedBit, ReferenceRange, RecordRule}
+use Rattle.fault.specs.Refusing.{refuse, then}
 use Rattle.crc.specs.Burst.{Rows, AlikeBut, CheckFits, check_fits, with_check}
 use Rattle.record.specs.declared.record.Block.{Block}
 use Rattle.record.specs.Layout.{data_rows, block_of, has_sync, reserved_clear}
 use Rattle.record.specs.Rules.{keeps_rules, checked}
-pub use Rattle.record.specs.Rules.{then}
-
--- refuse if the test holds, else go on
-abbrev pub refuse : {A : Type 0} → Bool → Fault → Result A Fault → Result A Fault
-refuse test fault rest = cond test (Err fault) rest
 
 -- the rows of a block
 abbrev pub rows_of : Block → List ℕ

@@ -2,8 +2,9 @@
 use Rattle.std.proofs.Common.{◌≡◌, ℕ, zero, suc, ◌<◌, Bool, true, false, ◌&&◌, is_ok, Ok, Err, Result, refl, ap, ◌∙◌, inl, inr, arith}
 use Rattle.std.proofs.lemmas.Bool.{cases_eq}
 use Rattle.fault.specs.declared.Fault.{Fault}
+use Rattle.fault.specs.Refusing.{then}
 use Rattle.record.specs.Rules.{fits_widths, keeps_rules, checked}
-use Rattle.block.specs.Code.{rows_of, encoded, then}
+use Rattle.block.specs.Code.{rows_of, encoded}
 use Rattle.carry.specs.Content.{record_at, block_at}
 
 abbrev all_below : ℕ → (ℕ → Bool) → Bool

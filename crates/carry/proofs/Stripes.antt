@@ -3,7 +3,8 @@ use Rattle.std.proofs.Common.{◌≡◌, ℕ, ◌<◌, Ok, ap, arith}
 use Rattle.std.proofs.lemmas.Bool.Decides.{nat_tests}
 use Rattle.column.specs.Column.{within, carried_rows}
 use Rattle.block.specs.Code.{decoded}
-use Rattle.block.specs.Slab.{readable, writable, done}
+use Rattle.fault.specs.Refusing.{done}
+use Rattle.block.specs.Slab.{readable, writable}
 use Rattle.carry.specs.Content.{block_at, position}
 use Rattle.carry.proofs.Contents.{written_at}
 

@@ -3,7 +3,7 @@ use Rattle.std.proofs.Common.{◌≡◌, ℕ, ◌<◌, true, ltb, List, Ok, Err,
 use Rattle.std.proofs.lemmas.Bool.Decides.{nat_tests}
 use Rattle.column.specs.Column.{carried_rows}
 use Rattle.block.specs.Code.{decoded}
-use Rattle.block.specs.Slab.{done}
+use Rattle.fault.specs.Refusing.{done}
 use Rattle.record.specs.declared.record.Record.{Record}
 use Rattle.record.specs.Rules.{checked}
 use Rattle.format.specs.declared.table.Format.{Format}

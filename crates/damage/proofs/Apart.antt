@@ -3,14 +3,14 @@ use Rattle.std.proofs.Common.{◌≡◌, ℕ, suc, ◌+◌, ◌/◌, ◌<◌, Bo
 use Rattle.std.proofs.lemmas.Bool.{cases_eq, and_parts, eqb-true, true≢false}
 use Rattle.std.proofs.lemmas.List.{length-set, length-replicate, get_or-set_other}
 use Rattle.fault.specs.declared.Fault.{Fault}
+use Rattle.fault.specs.Refusing.{then, done}
 use Rattle.record.specs.declared.record.Record.{Record}
 use Rattle.record.specs.declared.record.Block.{Block}
 use Rattle.slots.specs.declared.slot.Slot.{Slot}
 use Rattle.slots.specs.declared.slot.Slot.TheVariants.{Empty}
 use Rattle.record.specs.Equality.{is_same_record}
 use Rattle.slots.specs.Slots.{offered, cleared}
-use Rattle.block.specs.Code.{then, rows_of, decoded}
-use Rattle.block.specs.Slab.{done}
+use Rattle.block.specs.Code.{rows_of, decoded}
 use Rattle.format.specs.declared.table.Format.{Format}
 use Rattle.format.specs.Formats.{is_slab, in_format, index_of, next_first}
 use Rattle.image.specs.Image.{sealing}

@@ -2,9 +2,9 @@
 use Rattle.std.proofs.Common.{◌≡◌, ℕ, Bool, true, false, cond, ◌&&◌, eqb, ◌⊎◌, List, [], ◌∷◌, ◌++◌, Some, None, Ok, Err, Option, Result, sym, refl, ap, ◌∙◌, subst, ap₂, subst₂, inl, inr, arith}
 use Rattle.std.proofs.lemmas.Bool.{cond_both, cond-true, cases_eq, and_parts, and_from, eqb-true, eq-eqb, true≢false}
 use Rattle.fault.specs.declared.Fault.{Fault}
+use Rattle.fault.specs.Refusing.{done}
 use Rattle.record.specs.declared.record.Record.{Record}
 use Rattle.record.specs.declared.record.Block.{Block}
-use Rattle.block.specs.Slab.{done}
 use Rattle.damage.specs.Chain.{Picture, Chain, Image}
 use Rattle.damage.specs.Calls.{Call, seal, opens, place, close, start, gather, deliver, paint, Answer, unbuilt, silent, imaged, placed, started, brought, answer, after, placing_on, place_answer}
 use Rattle.damage.specs.Runs.{run, carried_by, NonePlaced, NonePainted, LastPlaced, carried_then}

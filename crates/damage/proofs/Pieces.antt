@@ -3,7 +3,7 @@ use Rattle.std.proofs.Common.{◌≡◌, ℕ, zero, suc, ◌*◌, ◌<◌, Bool,
 use Rattle.std.proofs.lemmas.Bool.{eqb-true, eqb-false, ltb-true, eq-eqb, cond_both, cond-true, and_parts}
 use Rattle.fault.specs.declared.Fault.{Fault}
 use Rattle.fault.specs.declared.Fault.TheVariants.{Length, SlabExtent, NotInFormat}
-use Rattle.block.specs.Code.{refuse, then}
+use Rattle.fault.specs.Refusing.{refuse, then}
 use Rattle.block.proofs.Codes.{not-false}
 use Rattle.format.specs.declared.table.Format.{Format}
 use Rattle.format.specs.Formats.{columns_of, stripes_of, is_slab, in_format, index_of, element_count}

@@ -4,6 +4,7 @@ use Rattle.std.proofs.lemmas.Bool.{cond_both, and_parts, eqb-true, eq-eqb, cases
 use Rattle.std.proofs.ByRecursion.{All-get_or}
 use Rattle.std.proofs.lemmas.List.{get_or_past}
 use Rattle.fault.specs.declared.Fault.{Fault}
+use Rattle.fault.specs.Refusing.{done}
 use Rattle.crc.specs.Burst.{Rows, AlikeBut}
 use Rattle.crc.proofs.Bursts.{checked_fits}
 use Rattle.column.specs.Column.{embedded, carried_rows}
@@ -14,7 +15,6 @@ use Rattle.record.specs.Layout.{data_rows}
 use Rattle.record.specs.Laws.{Fitting, Formed}
 use Rattle.record.proofs.Undoing.{decoding_undoes}
 use Rattle.block.specs.Code.{rows_of, decoded, WellFormed}
-use Rattle.block.specs.Slab.{done}
 use Rattle.block.proofs.Codes.{checked_ok, decoded_back, accepts}
 use Rattle.format.specs.declared.table.Format.{Format}
 use Rattle.image.specs.Image.{sealing}

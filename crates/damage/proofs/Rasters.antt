@@ -2,10 +2,10 @@
 use Rattle.std.proofs.Common.{◌≡◌, ℕ, suc, ◌/◌, ◌<◌, List, ◌∷◌, length, get_or, Some, None, Option, Result, sym, refl, ap, ◌∙◌, subst, ap₂, inl, inr, arith}
 use Rattle.std.proofs.lemmas.Bool.{cases_eq}
 use Rattle.fault.specs.declared.Fault.{Fault}
+use Rattle.fault.specs.Refusing.{done}
 use Rattle.record.specs.declared.record.Record.{Record}
 use Rattle.slots.specs.declared.slot.Slot.TheVariants.{Empty}
 use Rattle.slots.specs.Slots.{cleared}
-use Rattle.block.specs.Slab.{done}
 use Rattle.format.specs.Formats.{next_first}
 use Rattle.image.specs.Image.{sealing}
 use Rattle.inserter.specs.Place.{placed_at}

@@ -2,10 +2,10 @@
 use Rattle.std.proofs.Common.{◌≡◌, ℕ, ◌/◌, ◌<◌, List, ◌∷◌, length, Ok, Err, Option, Result, sym, refl, ap, ◌∙◌, subst, ap₂, inl, inr, arith}
 use Rattle.std.proofs.lemmas.Bool.{cases_eq}
 use Rattle.fault.specs.declared.Fault.{Fault}
+use Rattle.fault.specs.Refusing.{done}
 use Rattle.record.specs.declared.record.Record.{Record}
 use Rattle.record.specs.declared.record.Block.{Block}
 use Rattle.slots.specs.declared.slot.Slot.{Slot}
-use Rattle.block.specs.Slab.{done}
 use Rattle.format.specs.declared.table.Format.{Format}
 use Rattle.image.specs.Image.{overwritten, sealing}
 use Rattle.inserter.specs.Place.{placing, placed_at}

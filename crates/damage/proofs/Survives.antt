@@ -6,7 +6,8 @@ use Rattle.std.proofs.lemmas.Simd.{map-map}
 use Rattle.std.proofs.lemmas.List.FromFn.{fill_by_all}
 use Rattle.std.specs.List.{range_with_len}
 use Rattle.fault.specs.declared.Fault.{Fault}
-use Rattle.fault.specs.declared.Fault.TheVariants.{FirstReference, Length, SlabExtent, FrameOrField, UnexpectedReference, EmptySlot, DisputedSlot, NotInFormat}
+use Rattle.fault.specs.declared.Fault.TheVariants.{Length, SlabExtent, FrameOrField, UnexpectedReference, EmptySlot, DisputedSlot, NotInFormat}
+use Rattle.fault.specs.Refusing.{refuse, then, done}
 use Rattle.column.specs.Column.{carried_rows}
 use Rattle.record.specs.declared.record.Record.{Record}
 use Rattle.record.specs.declared.record.Block.{Block}
@@ -17,10 +18,9 @@ use Rattle.std.proofs.lemmas.Bool.Decides.{Decides-eqb}
 use Rattle.slots.specs.Slots.{state_of, place_of, offered, offered_at, cleared, lowest_in}
 use Rattle.slots.proofs.Offering.{settled as offer-settles}
 use Rattle.slots.proofs.Searching.{lowest_is}
-use Rattle.block.specs.Code.{refuse, then, decoded}
-use Rattle.block.specs.Slab.{done}
+use Rattle.block.specs.Code.{decoded}
 use Rattle.format.specs.declared.table.Format.{Format}
-use Rattle.format.specs.Formats.{number_of, columns_of, stripes_of, carriers_of, frame_of, accepted, is_slab, in_format, reference_of, index_of, element_count}
+use Rattle.format.specs.Formats.{number_of, columns_of, stripes_of, carriers_of, frame_of, accepted, first_of, is_slab, in_format, reference_of, index_of, element_count}
 use Rattle.format.specs.Carriers.{count}
 use Rattle.format.proofs.Carried.{left_of_sets}
 use Rattle.image.specs.Elements.{element_of, elements_of, joined}
@@ -48,8 +48,8 @@ refuse_pass test fault rest e = cond-false test (Err fault) rest e
 start_long : (number first slots : ℕ) (g : Gathering) → starting number first slots ≡ Ok g → slots ≡ 135
 start_long number first slots g e =
     let a = went_on (accepted number) _ g e in
-    let b = passed_ok (ltb 65520 first) FirstReference _ g a.2 in
-    let c = passed_ok (not (eqb slots element_count)) Length _ g b.1 in
+    let b = went_on (first_of first) _ g a.2 in
+    let c = passed_ok (not (eqb slots element_count)) Length _ g b.2 in
     eqb-true slots 135 (not-false _ c.0)
 
 -- a slot that is empty or holds v comes to hold v when v is offered

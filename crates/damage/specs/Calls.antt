@@ -1,11 +1,11 @@
 -- The calls of a run: what each answers and what it leaves. Answers and memories are those that the contracts of the calls define.
 use Rattle.std.specs.Prelude.{ℕ, suc, List, length, Some, None, Option, Result}
 use Rattle.fault.specs.declared.Fault.{Fault}
+use Rattle.fault.specs.Refusing.{done}
 use Rattle.record.specs.declared.record.Record.{Record}
 use Rattle.record.specs.declared.record.Block.{Block}
 use Rattle.slots.specs.Slots.{cleared}
 use Rattle.format.specs.Formats.{next_first}
-use Rattle.block.specs.Slab.{done}
 use Rattle.image.specs.Image.{sealing}
 use Rattle.inserter.specs.Place.{placing, placed_at}
 use Rattle.extractor.specs.declared.gathering.Gathering.{Gathering}

@@ -3,10 +3,10 @@
 -- So calls one after another over any rasters are a run of the law. What a call is not lent it cannot change: the language sees to that.
 use Rattle.std.specs.Prelude.{◌≡◌, ℕ, suc, ◌<◌, List, [], ◌∷◌, length, Some, None, Result}
 use Rattle.fault.specs.declared.Fault.{Fault}
+use Rattle.fault.specs.Refusing.{done}
 use Rattle.record.specs.declared.record.Record.{Record}
 use Rattle.record.specs.declared.record.Block.{Block}
 use Rattle.slots.specs.declared.slot.Slot.{Slot}
-use Rattle.block.specs.Slab.{done}
 use Rattle.format.specs.declared.table.Format.{Format}
 use Rattle.image.specs.Image.{sealing, overwritten}
 use Rattle.inserter.specs.Place.{placing, placed_at}

@@ -2,10 +2,10 @@
 // of every chain that it could be made in. Where this takes an answer of ours, the call itself stands alone in a function below, which the
 // check proves with none, so that a wrong call is refused there.
 ghost use Rattle.std.specs.Prelude.{◌≡◌, ℕ, ◌<◌, length};
-ghost use Rattle.block.specs.Slab.{done};
+ghost use Rattle.fault.specs.Refusing.{done};
 ghost use Rattle.format.specs.Formats.{next_first};
 ghost use Rattle.image.specs.Elements.{elements_of, joined};
-ghost use Rattle.image.specs.Image.{sealing, overwritten, done as doneImage};
+ghost use Rattle.image.specs.Image.{sealing, overwritten};
 ghost use Rattle.inserter.specs.Place.{placing, placed_at};
 ghost use Rattle.extractor.specs.Gather.{starting, gathered};
 ghost use Rattle.extractor.specs.Delivery.{delivering};
@@ -128,14 +128,14 @@ pub fn start_in_run(number: u32, first: u32, table: &mut Table<'_, u32>) -> Resu
 
 // Delivers a picture's image.
 pub fn deliver_in_run(table: &Table<'_, u32>, image: &mut SealedImage) -> Result<(), Fault>
-    ensures answer { result ≡ doneImage (delivering table.now.slots.now) }
+    ensures answer { result ≡ done (delivering table.now.slots.now) }
     ensures step { DeliverStep table.now.slots.now image.old.bytes image.new.bytes result }
 {
     deliver_into(table, image)
 }
 
 fn deliver_into(table: &Table<'_, u32>, image: &mut SealedImage) -> Result<(), Fault>
-    ensures answer { result ≡ doneImage (delivering table.now.slots.now) }
+    ensures answer { result ≡ done (delivering table.now.slots.now) }
     ensures image { image.new.bytes ≡ overwritten (delivering table.now.slots.now) image.old.bytes }
 {
     deliver(table, image)
@@ -143,7 +143,7 @@ fn deliver_into(table: &Table<'_, u32>, image: &mut SealedImage) -> Result<(), F
 
 // Seals data.
 pub fn seal_in_run(data: &[u8], image: &mut SealedImage) -> Result<(), Fault>
-    ensures answer { result ≡ doneImage (sealing «data».now) }
+    ensures answer { result ≡ done (sealing «data».now) }
     ensures step { SealStep «data».now image.old.bytes image.new.bytes result }
 {
     image.seal(data)

@@ -5,15 +5,15 @@ use Rattle.std.proofs.lemmas.List.{same_lists, get_or-map, get_or_default}
 use Rattle.std.proofs.lemmas.Bool.{eqb-true, eq-eqb}
 use Rattle.fault.specs.declared.Fault.{Fault}
 use Rattle.fault.specs.declared.Fault.TheVariants.{Length, EmptySlot, DisputedSlot}
+use Rattle.fault.specs.Refusing.{then, done}
 use Rattle.slots.specs.declared.slot.Slot.{Slot}
 use Rattle.slots.specs.declared.slot.Slot.TheVariants.{Empty, Held, Disputed}
 use Rattle.slots.specs.declared.slot.State.{State}
 use Rattle.slots.specs.Slots.{state_of, lowest_in, Lowest, NoneBelow}
 use Rattle.slots.proofs.Searching.{lowest_holds}
-use Rattle.block.specs.Code.{then}
 use Rattle.block.proofs.Codes.{not-false}
 use Rattle.format.specs.Formats.{element_count}
-use Rattle.image.specs.Image.{done, judged, receiving}
+use Rattle.image.specs.Image.{judged, receiving}
 use Rattle.image.specs.Elements.{elements_of, joined}
 use Rattle.image.proofs.Joining.{element_at_lem, elements_long, joined_bytes, joined_elements}
 use Rattle.image.proofs.Judging.{sealed_judged}

@@ -1,8 +1,9 @@
 -- That a gather refuses short bursts.
 use Rattle.std.proofs.Common.{◌≡◌, ℕ, false, is_ok, Ok, Err, Result, refl}
 use Rattle.fault.specs.declared.Fault.{Fault}
+use Rattle.fault.specs.Refusing.{then}
 use Rattle.column.specs.Column.{carried_rows}
-use Rattle.block.specs.Code.{then, decoded}
+use Rattle.block.specs.Code.{decoded}
 use Rattle.extractor.specs.declared.gathering.Gathering.{Gathering}
 use Rattle.extractor.specs.Reading.{BurstIn}
 use Rattle.extractor.specs.Gather.{admitted, expected, gathered}

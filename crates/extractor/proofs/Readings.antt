@@ -3,10 +3,11 @@ use Rattle.std.proofs.Common.{◌≡◌, ℕ, ◌<◌, Bool, true, false, not, l
 use Rattle.std.proofs.lemmas.Bool.Decides.{nat_tests}
 use Rattle.fault.specs.declared.Fault.{Fault}
 use Rattle.fault.specs.declared.Fault.TheVariants.{SlabExtent, NotInFormat}
+use Rattle.fault.specs.Refusing.{refuse, then}
 use Rattle.crc.specs.Burst.{Rows}
 use Rattle.column.specs.Column.{carried_rows}
 use Rattle.column.proofs.Spelled.{spelled_pow, carried_row_lem, carried_length}
-use Rattle.block.specs.Code.{refuse, then, decoded, WellFormed}
+use Rattle.block.specs.Code.{decoded, WellFormed}
 use Rattle.block.proofs.Codes.{passed, not-false, accepts, accepted_if_formed, none_near}
 use Rattle.format.specs.declared.table.Format.{Format}
 use Rattle.format.specs.Formats.{accepted, columns_of, is_slab}

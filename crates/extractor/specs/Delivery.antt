@@ -2,11 +2,11 @@
 use Rattle.std.specs.Prelude.{◌≡◌, ℕ, ◌<◌, not, List, map, length, Some, None, Ok, Err, Option, Result, ◌==◌, slice_index_or}
 use Rattle.fault.specs.declared.Fault.{Fault}
 use Rattle.fault.specs.declared.Fault.TheVariants.{Length, EmptySlot, DisputedSlot}
+use Rattle.fault.specs.Refusing.{refuse, then}
 use Rattle.slots.specs.declared.slot.Slot.{Slot}
 use Rattle.slots.specs.declared.slot.Slot.TheVariants.{Empty, Held, Disputed}
 use Rattle.slots.specs.declared.slot.State.{State}
 use Rattle.slots.specs.Slots.{lowest_in}
-use Rattle.block.specs.Code.{refuse, then}
 use Rattle.format.specs.Formats.{element_count}
 use Rattle.image.specs.Image.{receiving, Sealed}
 use Rattle.image.specs.Elements.{element_of, joined, Bytes}

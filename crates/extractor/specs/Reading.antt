@@ -2,10 +2,11 @@
 use Rattle.std.specs.Prelude.{◌≡◌, ℕ, ◌<◌, ◌≤◌, true, not, List, Ok, Result, nat_lt}
 use Rattle.fault.specs.declared.Fault.{Fault}
 use Rattle.fault.specs.declared.Fault.TheVariants.{SlabExtent, NotInFormat}
+use Rattle.fault.specs.Refusing.{refuse, then}
 use Rattle.column.specs.Column.{carried_rows}
 use Rattle.crc.specs.Burst.{Rows, AlikeBut}
 use Rattle.record.specs.declared.record.Block.{Block}
-use Rattle.block.specs.Code.{refuse, then, decoded, WellFormed}
+use Rattle.block.specs.Code.{decoded, WellFormed}
 use Rattle.format.specs.declared.table.Format.{Format}
 use Rattle.format.specs.Formats.{accepted, columns_of, is_slab}
 

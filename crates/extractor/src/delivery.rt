@@ -1,7 +1,8 @@
 // Delivering a picture's image.
 ghost use Rattle.std.specs.Prelude.{◌≡◌, ℕ, ◌<◌, List, map, length, is_ok, Ok, Decides, slice_index_or};
 ghost use Rattle.slots.specs.declared.slot.Slot.TheVariants.{Empty};
-ghost use Rattle.image.specs.Image.{done, overwritten};
+ghost use Rattle.fault.specs.Refusing.{done};
+ghost use Rattle.image.specs.Image.{overwritten};
 ghost use Rattle.image.specs.Elements.{elements_of, joined};
 ghost use Rattle.extractor.specs.Delivery.{held_in, collected, delivering, Whole};
 

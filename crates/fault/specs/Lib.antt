@@ -1,2 +1,3 @@
+pub mod Refusing
 pub mod Table
 pub mod Text

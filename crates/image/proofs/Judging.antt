@@ -2,10 +2,11 @@
 use Rattle.std.proofs.Common.{◌≡◌, ℕ, ◌+◌, ◌<◌, Bool, true, false, not, ◌||◌, eqb, ◌⊎◌, List, is_ok, Ok, Err, Result, refl, ap, arith}
 use Rattle.std.proofs.lemmas.Bool.Decides.{nat_tests, Decides-eqb}
 use Rattle.fault.specs.declared.Fault.{Fault}
+use Rattle.fault.specs.Refusing.{refuse}
 use Rattle.image.specs.declared.table.Name.TheVariants.{MpegStandardFlag, ChromaFormat, PictureStructure, Spare}
 use Rattle.image.specs.Table.{parameter_of}
 use Rattle.image.specs.Value.{bit_of, value_of}
-use Rattle.image.specs.Image.{refuse, value_in, check_fits, judged, Sealed, Fit}
+use Rattle.image.specs.Image.{value_in, check_fits, judged, Sealed, Fit}
 use Rattle.image.proofs.Spelled.{spelled_below, zero_bits, zero_spelled}
 
 -- an acceptance has nothing to say but that it is one

@@ -7,12 +7,13 @@ use Rattle.std.proofs.lemmas.Bool.{cases_eq, cases_lt}
 use Rattle.std.proofs.lemmas.Bool.Decides.{nat_tests}
 use Rattle.fault.specs.declared.Fault.{Fault}
 use Rattle.fault.specs.declared.Fault.TheVariants.{Length}
+use Rattle.fault.specs.Refusing.{refuse, then}
 use Rattle.crc.specs.Register.{check_of, byte_bits}
 use Rattle.crc.proofs.Runs.{check_below}
 use Rattle.image.specs.declared.table.Name.TheVariants.{Check}
 use Rattle.image.specs.Table.{parameter_of}
 use Rattle.image.specs.Value.{value_of}
-use Rattle.image.specs.Image.{refuse, then, value_in, check_fits, lawful, judged, Sealed, word_bytes, with_check, sealing}
+use Rattle.image.specs.Image.{value_in, check_fits, lawful, judged, Sealed, word_bytes, with_check, sealing}
 use Rattle.image.specs.Elements.{Bytes}
 use Rattle.image.proofs.Spelled.{spelled_word}
 

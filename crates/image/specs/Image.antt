@@ -2,24 +2,12 @@
 use Rattle.std.specs.Prelude.{◌≡◌, ℕ, ◌+◌, ◌/◌, ◌%◌, ◌^◌, ◌<◌, Bool, true, cond, not, ◌||◌, ◌⊎◌, List, [], ◌∷◌, ◌++◌, length, take, replicate, is_ok, Ok, Err, Result, ◌==◌, slice_set}
 use Rattle.fault.specs.declared.Fault.{Fault}
 use Rattle.fault.specs.declared.Fault.TheVariants.{Length, ImageCheck, MpegStandard, PictureStructure as NoStructure, ChromaFormat as NoChroma, SpareBit}
+use Rattle.fault.specs.Refusing.{refuse, then}
 use Rattle.crc.specs.Register.{check_of, byte_bits}
 use Rattle.image.specs.declared.table.Name.{Name}
 use Rattle.image.specs.declared.table.Name.TheVariants.{MpegStandardFlag, ChromaFormat, PictureStructure, TopFieldFirst, QScaleType, RepeatFirstField, Spare, Check}
 use Rattle.image.specs.Table.{table, row_at, row_of, parameter_of}
 use Rattle.image.specs.Value.{bit_of, value_of}
-
--- refuse if the test holds, else go on
-abbrev pub refuse : {A : Type 0} → Bool → Fault → Result A Fault → Result A Fault
-refuse test fault rest = cond test (Err fault) rest
-
--- go on with what was accepted
-abbrev pub then : {A B : Type 0} → Result A Fault → (A → Result B Fault) → Result B Fault
-then (Ok x) next = next x
-then (Err fault) next = Err fault
-
--- done, where what was accepted is no part of the answer
-abbrev pub done : {A : Type 0} → Result A Fault → Result (Unit {0}) Fault
-done r = then r (λ _. Ok tt)
 
 -- a memory that is overwritten on acceptance alone
 abbrev pub overwritten : Result (List ℕ) Fault → List ℕ → List ℕ

@@ -1,6 +1,7 @@
 // Sealed images: their check fits, and they pass refusals 23 to 26.
 ghost use Rattle.std.specs.Prelude.{◌≡◌};
-ghost use Rattle.image.specs.Image.{done, overwritten, judged, Sealed, sealing, receiving, blank_image, Blank, Samples, is_frame, is422, top_field_first_of, repeat_first_field_of, q_scale_type_of};
+ghost use Rattle.fault.specs.Refusing.{done};
+ghost use Rattle.image.specs.Image.{overwritten, judged, Sealed, sealing, receiving, blank_image, Blank, Samples, is_frame, is422, top_field_first_of, repeat_first_field_of, q_scale_type_of};
 ghost use Rattle.image.specs.Elements.{element_at, elements_of, joined};
 
 use crate::elements::{element_of, elements_of};

@@ -1,7 +1,8 @@
 // Judging images: their check, and what every sealed image keeps.
 ghost use Rattle.std.specs.Prelude.{◌≡◌, not, length, take, is_ok, IfOk, Ok, Decides};
 ghost use Rattle.fault.specs.declared.Fault.TheVariants.{ImageCheck};
-ghost use Rattle.image.specs.Image.{refuse, check_fits, lawful, judged, Sealed, Fit, with_check, sealing, blank_image};
+ghost use Rattle.fault.specs.Refusing.{refuse};
+ghost use Rattle.image.specs.Image.{check_fits, lawful, judged, Sealed, Fit, with_check, sealing, blank_image};
 
 use crate::table::Name;
 use crate::value::value;

@@ -3,11 +3,12 @@ use Rattle.std.proofs.Common.{◌≡◌, ℕ, ◌+◌, ◌*◌, ◌<◌, ◌≤�
 use Rattle.std.proofs.lemmas.Bool.Decides.{nat_tests}
 use Rattle.fault.specs.declared.Fault.{Fault}
 use Rattle.fault.specs.declared.Fault.TheVariants.{SlabExtent, NotInFormat, FrameOrField}
+use Rattle.fault.specs.Refusing.{refuse, then}
 use Rattle.column.specs.Column.{within, carried_rows}
 use Rattle.record.specs.declared.record.Record.{Record}
 use Rattle.record.specs.declared.record.Block.{Block}
 use Rattle.record.specs.Rules.{checked}
-use Rattle.block.specs.Code.{refuse, then, rows_of, decoded}
+use Rattle.block.specs.Code.{rows_of, decoded}
 use Rattle.block.specs.Slab.{writable, readable}
 use Rattle.block.proofs.Codes.{not-false}
 use Rattle.format.specs.declared.table.Format.{Format}

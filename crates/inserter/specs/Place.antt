@@ -2,12 +2,13 @@
 use Rattle.std.specs.Prelude.{◌≡◌, ℕ, ◌≤◌, Bool, cond, not, List, Ok, Err, Result}
 use Rattle.fault.specs.declared.Fault.{Fault}
 use Rattle.fault.specs.declared.Fault.TheVariants.{SlabExtent, NotInFormat, FrameOrField}
+use Rattle.fault.specs.Refusing.{refuse, then}
 use Rattle.column.specs.Column.{embedded, carried_rows}
 use Rattle.record.specs.declared.record.PictureFlags.{PictureFlags}
 use Rattle.record.specs.declared.record.Record.{Record}
 use Rattle.record.specs.declared.record.Block.{Block}
 use Rattle.record.specs.Rules.{checked}
-use Rattle.block.specs.Code.{refuse, then, rows_of, decoded}
+use Rattle.block.specs.Code.{rows_of, decoded}
 use Rattle.block.specs.Slab.{writable, readable}
 use Rattle.format.specs.declared.table.Format.{Format}
 use Rattle.format.specs.Formats.{frame_of, is_slab, in_format, reference_of, index_of}

@@ -1,6 +1,6 @@
 // One macroblock in a picture of its own.
 ghost use Rattle.std.specs.Prelude.{◌≡◌, ℕ, ◌<◌};
-ghost use Rattle.block.specs.Slab.{done};
+ghost use Rattle.fault.specs.Refusing.{done};
 ghost use Rattle.format.specs.Formats.{next_first};
 ghost use Rattle.inserter.specs.Place.{placing, placed_at};
 

@@ -2,6 +2,7 @@
 use Rattle.std.specs.Prelude.{◌≡◌, ℕ, ◌-◌, ◌^◌, ◌<◌, Bool, true, cond, not, ◌&&◌, ◌||◌, List, ℤ, pos, negsuc, Ok, Err, Result, nat_lt}
 use Rattle.fault.specs.declared.Fault.{Fault}
 use Rattle.fault.specs.declared.Fault.TheVariants.{ComponentWidth, RecordRule}
+use Rattle.fault.specs.Refusing.{then}
 use Rattle.record.specs.declared.record.Record.{Record}
 use Rattle.record.specs.declared.record.Block.{Block}
 use Rattle.record.specs.Layout.{Mv000, Mv001, Mv010, Mv011, Mv100, Mv101, Mv110, Mv111, MotionType, NumOtherBits, NumMvBits, QScaleCode, MbVertFieldSel, NumCoefBits, CodedBlockPattern, width_of, data_rows}
@@ -70,11 +71,6 @@ keeps_rules r = intra_kept r && skipped_kept r
 -- the answer of the check
 abbrev pub checked : Record → Result (Unit {0}) Fault
 checked r = cond (fits_widths r) (cond (keeps_rules r) (Ok tt) (Err RecordRule)) (Err ComponentWidth)
-
--- go on with what was accepted
-abbrev pub then : {A B : Type 0} → Result A Fault → (A → Result B Fault) → Result B Fault
-then (Ok x) k = k x
-then (Err f) k = Err f
 
 -- the answer of the encoder
 abbrev pub encoded : Block → Result (List ℕ) Fault

@@ -2,7 +2,7 @@
 use Rattle.std.specs.Prelude.{ℕ, List, replicate}
 use Rattle.slots.specs.declared.slot.Slot.{Slot}
 use Rattle.slots.specs.declared.slot.Slot.TheVariants.{Empty}
-use Rattle.image.specs.Image.{done}
+use Rattle.fault.specs.Refusing.{done}
 use Rattle.extractor.specs.declared.gathering.Gathering.{Gathering}
 use Rattle.extractor.specs.Delivery.{delivering}
 use Rattle.bench.specs.Gather.{bench_picture, tallies_in, table_of}

@@ -1,6 +1,7 @@
 // Answers about delivering: elements of an image and single values are offered to a table, and it is delivered.
 ghost use Rattle.std.specs.Prelude.{◌≡◌, Some};
-ghost use Rattle.image.specs.Image.{done, overwritten, blank_image};
+ghost use Rattle.fault.specs.Refusing.{done};
+ghost use Rattle.image.specs.Image.{overwritten, blank_image};
 ghost use Rattle.image.specs.Elements.{element_at};
 ghost use Rattle.extractor.specs.Delivery.{delivering};
 

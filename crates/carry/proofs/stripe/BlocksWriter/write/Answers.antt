@@ -1,6 +1,7 @@
 -- The block can be written, so it is, and it is read again.
 use Rattle.std.proofs.Common.{◌≡◌, Ok, sym, ap, ◌∙◌, arith, rules}
-use Rattle.block.specs.Slab.{writable, done}
+use Rattle.fault.specs.Refusing.{done}
+use Rattle.block.specs.Slab.{writable}
 use Rattle.carry.proofs.Stripes.{writes, read_inside}
 use Rattle.carry.proofs.stripe.BlocksWriter.write.Goals as goal
 
