@@ -1,12 +1,12 @@
 -- The sealed image survives the loss of fewer macroblocks than its elements have carriers.
-use Rattle.std.proofs.Common.{◌≡◌, ℕ, ◌<◌, Bool, true, false, not, eqb, ltb, ◌⊎◌, List, [], ◌∷◌, ◌++◌, map, length, get_or, is_ok, Some, None, Ok, Err, Option, Result, sym, refl, ap, ◌∙◌, subst, ap₂, subst₂, inl, inr, append_assoc, arith}
+use Rattle.std.proofs.Common.{◌≡◌, ℕ, ◌<◌, Bool, true, false, not, eqb, ◌⊎◌, List, [], ◌∷◌, ◌++◌, map, length, get_or, is_ok, Some, None, Ok, Err, Option, Result, sym, refl, ap, ◌∙◌, subst, ap₂, subst₂, inl, inr, append_assoc, arith}
 use Rattle.std.proofs.lemmas.Bool.{cases_eq, cases_Bool, eqb-true, eq-eqb, cond-true, cond-false, not-false, not_from_true, true≢false}
 use Rattle.std.proofs.lemmas.List.{get_or-set_same, get_or-set_other, get_or-replicate, length-replicate, append-nil}
 use Rattle.std.proofs.lemmas.Simd.{map-map}
 use Rattle.std.proofs.lemmas.List.FromFn.{fill_by_all}
 use Rattle.std.specs.List.{range_with_len}
 use Rattle.fault.specs.declared.Fault.{Fault}
-use Rattle.fault.specs.declared.Fault.TheVariants.{FirstReference, Length, SlabExtent, FrameOrField, UnexpectedReference, EmptySlot, DisputedSlot, NotInFormat}
+use Rattle.fault.specs.declared.Fault.TheVariants.{Length, SlabExtent, FrameOrField, UnexpectedReference, EmptySlot, DisputedSlot, NotInFormat}
 use Rattle.fault.specs.Refusing.{refuse, then, done}
 use Rattle.column.specs.Column.{carried_rows}
 use Rattle.record.specs.declared.record.Record.{Record}
@@ -20,7 +20,7 @@ use Rattle.slots.proofs.Offering.{settled as offer-settles}
 use Rattle.slots.proofs.Searching.{lowest_is}
 use Rattle.block.specs.Code.{decoded}
 use Rattle.format.specs.declared.table.Format.{Format}
-use Rattle.format.specs.Formats.{number_of, columns_of, stripes_of, carriers_of, frame_of, accepted, is_slab, in_format, reference_of, index_of, element_count}
+use Rattle.format.specs.Formats.{number_of, columns_of, stripes_of, carriers_of, frame_of, accepted, first_of, is_slab, in_format, reference_of, index_of, element_count}
 use Rattle.format.specs.Carriers.{count}
 use Rattle.format.proofs.Carried.{left_of_sets}
 use Rattle.image.specs.Elements.{element_of, elements_of, joined}
@@ -48,8 +48,8 @@ refuse_pass test fault rest e = cond-false test (Err fault) rest e
 start_long : (number first slots : ℕ) (g : Gathering) → starting number first slots ≡ Ok g → slots ≡ 135
 start_long number first slots g e =
     let a = went_on (accepted number) _ g e in
-    let b = passed_ok (ltb 65520 first) FirstReference _ g a.2 in
-    let c = passed_ok (not (eqb slots element_count)) Length _ g b.1 in
+    let b = went_on (first_of first) _ g a.2 in
+    let c = passed_ok (not (eqb slots element_count)) Length _ g b.2 in
     eqb-true slots 135 (not-false _ c.0)
 
 -- a slot that is empty or holds v comes to hold v when v is offered

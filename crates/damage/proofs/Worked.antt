@@ -19,7 +19,7 @@ use Rattle.record.specs.Rules.{checked, fits_widths, keeps_rules}
 use Rattle.slots.specs.declared.slot.Slot.TheVariants.{Empty}
 use Rattle.format.specs.declared.table.Format.{Format}
 use Rattle.format.specs.declared.table.Format.TheVariants.{Frame1080, Field1080, Frame720, Bench}
-use Rattle.format.specs.Formats.{number_of, columns_of, stripes_of, carriers_of, frame_of, macroblocks_of, position_of, accepted, is_slab, in_format, index_of, element_count}
+use Rattle.format.specs.Formats.{number_of, columns_of, stripes_of, carriers_of, frame_of, macroblocks_of, position_of, accepted, first_of, is_slab, in_format, index_of, element_count}
 use Rattle.format.specs.Carriers.{count, in_stripe, in_stripes}
 use Rattle.format.proofs.Places.{position_below, from_in_format}
 use Rattle.image.specs.Table.{parameter_of}
@@ -84,10 +84,12 @@ number_accepted Bench = refl
 next_lawful : (new : Chain) → New new → ltb 65520 new.next ≡ false
 next_lawful new n =
     let a = went_on (accepted n.number) _ (new.format, new.next) n.accepted in
-    let b = passed_ok (ltb 65520 n.first) FirstReference (Ok (a.0, n.first)) (new.format, new.next) a.2 in
-    let pair : ◌≡◌ {A = Format × ℕ} (a.0, n.first) (new.format, new.next) = let z = b.1 in cc in
-    let e : n.first ≡ new.next = ap (λ x. x.1) pair in
-    subst (λ k. ltb 65520 k ≡ false) e b.0
+    let b = went_on (first_of n.first) _ (new.format, new.next) a.2 in
+    let c = passed_ok (ltb 65520 n.first) FirstReference (Ok n.first) b.0 b.1 in
+    let pair : ◌≡◌ {A = Format × ℕ} (a.0, b.0) (new.format, new.next) = let z = b.2 in cc in
+    let same : n.first ≡ b.0 = let z = c.1 in cc in
+    let e : n.first ≡ new.next = same ∙ ap (λ x. x.1) pair in
+    subst (λ k. ltb 65520 k ≡ false) e c.0
 
 -- a place that is accepted
 placing_passes : (f : Format) (first s c rows words : ℕ) (image : List ℕ) (r : Record) → is_slab f rows words ≡ true → in_format f s c ≡ true → checked r ≡ Ok tt → agrees (is_frame image) (frame_of f) ≡ true →
@@ -206,8 +208,8 @@ module _ (new : Chain) (n : New new) (t : ℕ) (fitted : Fitted new t) (image : 
 
   starts : starting (number_of f) p.first (length ((run new earlier).table t)) ≡ Ok g
   starts =
-      ap (λ a. then a (λ f. refuse (ltb 65520 p.first) FirstReference (refuse (not (eqb (length ((run new earlier).table t)) element_count)) Length (Ok (record { format = f; first = p.first }))))) (number_accepted f)
-      ∙ refuse_pass (ltb 65520 new.next) FirstReference _ (next_lawful new n)
+      ap (λ a. then a (λ f. then (first_of p.first) (λ m. refuse (not (eqb (length ((run new earlier).table t)) element_count)) Length (Ok (record { format = f; first = m }))))) (number_accepted f)
+      ∙ ap (λ a. then a (λ m. refuse (not (eqb (length ((run new earlier).table t)) element_count)) Length (Ok (record { format = f; first = m })))) (refuse_pass (ltb 65520 new.next) FirstReference (Ok new.next) (next_lawful new n))
       ∙ refuse_pass (not (eqb (length ((run new earlier).table t)) element_count)) Length _ (not_from_true _ (eq-eqb _ _ ((steady_run new earlier).tables t ∙ fitted.table)))
 
   -- what was last placed, before the start and after any gathers
@@ -355,7 +357,7 @@ pub grey_new : (f : Format) → New (grey_chain f)
 grey_new f = record {
   number = number_of f;
   first = 0;
-  accepted = ap (λ a. then a (λ f. refuse (ltb 65520 0) FirstReference (Ok (f, 0)))) (number_accepted f);
+  accepted = ap (λ a. then a (λ f. Ok (f, 0))) (number_accepted f);
   none_opened = refl;
   none_open = refl;
   sheets = λ _. ap (λ n. replicate n Empty) (sym (length-replicate (columns_of f) Empty));

@@ -1,7 +1,7 @@
 -- Gathering a picture: what start and gather answer, and what they leave in the element table and on a stripe's sheet.
-use Rattle.std.specs.Prelude.{ℕ, not, List, Ok, Err, Result, ◌==◌, nat_eq, nat_lt}
+use Rattle.std.specs.Prelude.{ℕ, not, List, Ok, Err, Result, ◌==◌, nat_eq}
 use Rattle.fault.specs.declared.Fault.{Fault}
-use Rattle.fault.specs.declared.Fault.TheVariants.{FirstReference, Length, SlabExtent, FrameOrField, UnexpectedReference}
+use Rattle.fault.specs.declared.Fault.TheVariants.{Length, SlabExtent, FrameOrField, UnexpectedReference}
 use Rattle.fault.specs.Refusing.{refuse, then}
 use Rattle.column.specs.Column.{carried_rows}
 use Rattle.record.specs.declared.record.Record.{Record}
@@ -10,7 +10,7 @@ use Rattle.record.specs.Equality.{is_same_record}
 use Rattle.slots.specs.declared.slot.Slot.{Slot}
 use Rattle.slots.specs.Slots.{offered_at}
 use Rattle.block.specs.Code.{decoded}
-use Rattle.format.specs.Formats.{accepted, columns_of, frame_of, is_slab, within, reference_of, index_of, element_count}
+use Rattle.format.specs.Formats.{accepted, first_of, columns_of, frame_of, is_slab, within, reference_of, index_of, element_count}
 use Rattle.inserter.specs.Place.{agrees}
 use Rattle.extractor.specs.declared.gathering.Gathering.{Gathering}
 
@@ -23,9 +23,9 @@ settled (Err fault) was makes = was
 abbrev pub starting : ℕ → ℕ → ℕ → Result Gathering Fault
 starting number first slots =
     then (accepted number) (λ f.
-    refuse (nat_lt 65520 first) FirstReference
-    (refuse (not (slots == element_count)) Length
-    (Ok (record { format = f; first = first }))))
+    then (first_of first) (λ n.
+    refuse (not (slots == element_count)) Length
+    (Ok (record { format = f; first = n }))))
 
 -- a block that was read: 18 if it is of a frame and the format of fields, or the other way round; 19 if another reference is due
 abbrev pub expected : Gathering → ℕ → ℕ → Block → Result Block Fault

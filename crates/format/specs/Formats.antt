@@ -2,6 +2,7 @@
 use Rattle.std.specs.Prelude.{◌≡◌, ℕ, ◌+◌, ◌*◌, ◌/◌, ◌%◌, ◌<◌, Bool, true, false, cond, ◌&&◌, List, [], ◌∷◌, length, Some, None, Ok, Err, Option, Result, ◌==◌, nat_lt, slice_index_or}
 use Rattle.fault.specs.declared.Fault.{Fault}
 use Rattle.fault.specs.declared.Fault.TheVariants.{Format as NoFormat, FirstReference, NotInFormat}
+use Rattle.fault.specs.Refusing.{refuse}
 use Rattle.raster.specs.declared.extent.Extent.{Extent}
 use Rattle.format.specs.declared.table.Line.{Line}
 use Rattle.format.specs.declared.table.Format.{Format}
@@ -94,7 +95,7 @@ reference_count = 65521
 
 -- the first reference of a number, and refusal 4 above 65520
 abbrev pub first_of : ℕ → Result ℕ Fault
-first_of n = cond (nat_lt 65520 n) (Err FirstReference) (Ok n)
+first_of n = refuse (nat_lt 65520 n) FirstReference (Ok n)
 
 -- the reference of a macroblock, in a picture whose macroblock at position 0 has the reference `first`
 abbrev pub reference_of : Format → ℕ → ℕ → ℕ → ℕ

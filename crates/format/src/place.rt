@@ -1,5 +1,5 @@
 // Where a macroblock stands in a picture, its reference, and the element that it carries.
-ghost use Rattle.std.specs.Prelude.{◌≡◌, ◌*◌, ◌%◌, ◌^◌, ◌<◌, ◌≤◌, true, IfOk, OnOk};
+ghost use Rattle.std.specs.Prelude.{◌≡◌, ◌*◌, ◌%◌, ◌^◌, ◌<◌, ◌≤◌, true, is_ok, IfOk, OnOk, Decides};
 ghost use Rattle.format.specs.Formats.{in_format, within, macroblocks_of, position_of, reference_of, next_first, index_of, first_of};
 
 use crate::Format;
@@ -16,6 +16,7 @@ const REFERENCES: usize = 65521;
 // The first reference of a picture, of that number. Refuses one above 65520.
 pub fn first_reference(number: u32) -> Result<u16, Fault>
     ensures answer { result ≡ first_of number }
+    ensures decides { Decides (is_ok result) (number ≤ 65520) }
     ensures small { IfOk result (λ first. first ≤ 65520) }
 {
     if number > u32::from(LAST_REFERENCE) {
