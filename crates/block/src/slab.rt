@@ -1,7 +1,6 @@
 // A block in a column of any slab.
-ghost use Rattle.std.specs.Prelude.{◌≡◌, ℕ, ◌+◌, ◌*◌, ◌/◌, ◌<◌, ◌≤◌, false, is_ok, IfOk, if◌then◌else◌, Ok};
-ghost use Rattle.raster.specs.Difference.{differing};
-ghost use Rattle.column.specs.Column.{within, carrying, embedded, carried_rows};
+ghost use Rattle.std.specs.Prelude.{◌≡◌, ℕ, ◌<◌, ◌≤◌, is_ok, IfOk, if◌then◌else◌, Ok};
+ghost use Rattle.column.specs.Column.{within, embedded, OthersKept, OnlyLowBits, FewDiffer};
 ghost use Rattle.block.specs.Code.{rows_of, decoded};
 ghost use Rattle.fault.specs.Refusing.{done};
 ghost use Rattle.block.specs.Slab.{writable, readable};
@@ -18,9 +17,9 @@ pub fn write_block<R: Raster>(slab: &mut R, column: usize, block: &Block) -> Res
     ensures kept { R.Raster.kept slab.old slab.new }
     ensures after { (i j : ℕ) → i < R.Raster.rows slab.old → j < R.Raster.words slab.old → R.Raster.at slab.new i j ≡ (if is_ok result then embedded (R.Raster.at slab.old) column (rows_of block.now) i j else R.Raster.at slab.old i j) }
     ensures reads { result ≡ Ok tt → block.now.reference ≤ 65520 → readable (R.Raster.rows slab.new) (R.Raster.words slab.new) column (R.Raster.at slab.new) ≡ Ok block.now }
-    ensures others { (c : ℕ) → (c ≡ column → ⊥) → 16 ≤ R.Raster.rows slab.old → 32 * c + 32 ≤ R.Raster.words slab.old → carried_rows (R.Raster.at slab.new) c ≡ carried_rows (R.Raster.at slab.old) c }
-    ensures only { (i j : ℕ) → i < R.Raster.rows slab.old → j < R.Raster.words slab.old → (R.Raster.at slab.new i j / 2 ≡ R.Raster.at slab.old i j / 2) × (carrying column i j ≡ false → R.Raster.at slab.new i j ≡ R.Raster.at slab.old i j) }
-    ensures few { differing (R.Raster.at slab.old) (R.Raster.at slab.new) (R.Raster.rows slab.old) (R.Raster.words slab.old) ≤ 256 }
+    ensures others { OthersKept (R.Raster.at slab.old) (R.Raster.at slab.new) (R.Raster.rows slab.old) (R.Raster.words slab.old) column }
+    ensures only { OnlyLowBits (R.Raster.at slab.old) (R.Raster.at slab.new) (R.Raster.rows slab.old) (R.Raster.words slab.old) column }
+    ensures few { FewDiffer (R.Raster.at slab.old) (R.Raster.at slab.new) (R.Raster.rows slab.old) (R.Raster.words slab.old) }
 {
     let rows = rows_for(slab.extent(), column, block)?;
     embed(slab, column, &rows)

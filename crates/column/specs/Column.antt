@@ -1,9 +1,10 @@
 -- A block in a column of a slab. A slab is a raster of 16 rows; its column c is the words 32c to 32c + 31 of each row, in the order Cb Y Cr Y.
 -- Row i of the block travels in row i of the column: bit k, where bit 0 is the most significant of 16, in bit 0 of the chroma word 32c + 2k.
-use Rattle.std.specs.Prelude.{ℕ, zero, suc, ◌+◌, ◌-◌, ◌*◌, ◌/◌, ◌%◌, ◌^◌, Bool, cond, ◌&&◌, List, map, Ok, Err, Result, ◌==◌, nat_le, nat_lt, slice_index}
+use Rattle.std.specs.Prelude.{◌≡◌, ℕ, zero, suc, ◌+◌, ◌-◌, ◌*◌, ◌/◌, ◌%◌, ◌^◌, ◌<◌, ◌≤◌, Bool, false, cond, ◌&&◌, List, map, Ok, Err, Result, ◌==◌, ◌≢◌, nat_le, nat_lt, slice_index}
 use Rattle.fault.specs.declared.Fault.{Fault}
 use Rattle.fault.specs.declared.Fault.TheVariants.{SlabExtent, NotInFormat}
 use Rattle.std.specs.List.{range_with_len}
+use Rattle.raster.specs.Difference.{differing}
 use Rattle.column.specs.Scramble.{scrambled, unscrambled}
 
 -- the answer x, if the raster is a slab and the column lies wholly inside it
@@ -37,3 +38,14 @@ carried_row at column i = spelled (at i) (32 * column) 16
 
 unfoldable pub carried_rows : (ℕ → ℕ → ℕ) → ℕ → List ℕ
 carried_rows at column = map (carried_row at column) (range_with_len 0 16)
+
+-- What a write to a column of a slab leaves of the words that were there: what each other column in the slab carries; all but bit 0 of the
+-- words that carry the column's bits; and so all but 256 words.
+abbrev pub OthersKept : (ℕ → ℕ → ℕ) → (ℕ → ℕ → ℕ) → ℕ → ℕ → ℕ → Type 0
+OthersKept at at' rows words column = (c : ℕ) → (c ≢ column) → 16 ≤ rows → 32 * c + 32 ≤ words → carried_rows at' c ≡ carried_rows at c
+
+abbrev pub OnlyLowBits : (ℕ → ℕ → ℕ) → (ℕ → ℕ → ℕ) → ℕ → ℕ → ℕ → Type 0
+OnlyLowBits at at' rows words column = (i j : ℕ) → i < rows → j < words → (at' i j / 2 ≡ at i j / 2) × (carrying column i j ≡ false → at' i j ≡ at i j)
+
+abbrev pub FewDiffer : (ℕ → ℕ → ℕ) → (ℕ → ℕ → ℕ) → ℕ → ℕ → Type 0
+FewDiffer at at' rows words = differing at at' rows words ≤ 256

@@ -1,9 +1,8 @@
 // A block in one column of a slab, a macroblock: its embedding, and what the column carries.
-ghost use Rattle.std.specs.Prelude.{◌≡◌, ℕ, ◌+◌, ◌*◌, ◌/◌, ◌<◌, ◌≤◌, false, is_ok, if◌then◌else◌, Ok, ◌≢◌, nat_eq};
+ghost use Rattle.std.specs.Prelude.{◌≡◌, ℕ, ◌+◌, ◌*◌, ◌<◌, is_ok, if◌then◌else◌, Ok, nat_eq};
 ghost use Rattle.raster.specs.Meaning.{replaced};
-ghost use Rattle.raster.specs.Difference.{differing};
 ghost use Rattle.column.specs.Scramble.{scrambled, is_one, one_if};
-ghost use Rattle.column.specs.Column.{within, carrying, bit_at, embedded, spelled, carried_rows};
+ghost use Rattle.column.specs.Column.{within, bit_at, embedded, spelled, carried_rows, OthersKept, OnlyLowBits, FewDiffer};
 ghost use Rattle.column.specs.Window.{Lies, line_to, rows_to, row_of, rows_of};
 
 use crate::scramble::{carried_bit, scrambled_bit};
@@ -18,9 +17,9 @@ pub fn embed<R: Raster>(slab: &mut R, column: usize, rows: &[u16; 16]) -> Result
     ensures kept { R.Raster.kept slab.old slab.new }
     ensures after { (i j : ℕ) → i < R.Raster.rows slab.old → j < R.Raster.words slab.old → R.Raster.at slab.new i j ≡ (if is_ok result then embedded (R.Raster.at slab.old) column rows.now i j else R.Raster.at slab.old i j) }
     ensures reads { result ≡ Ok tt → carried_rows (R.Raster.at slab.new) column ≡ rows.now }
-    ensures others { (c : ℕ) → (c ≢ column) → 16 ≤ R.Raster.rows slab.old → 32 * c + 32 ≤ R.Raster.words slab.old → carried_rows (R.Raster.at slab.new) c ≡ carried_rows (R.Raster.at slab.old) c }
-    ensures only { (i j : ℕ) → i < R.Raster.rows slab.old → j < R.Raster.words slab.old → (R.Raster.at slab.new i j / 2 ≡ R.Raster.at slab.old i j / 2) × (carrying column i j ≡ false → R.Raster.at slab.new i j ≡ R.Raster.at slab.old i j) }
-    ensures few { differing (R.Raster.at slab.old) (R.Raster.at slab.new) (R.Raster.rows slab.old) (R.Raster.words slab.old) ≤ 256 }
+    ensures others { OthersKept (R.Raster.at slab.old) (R.Raster.at slab.new) (R.Raster.rows slab.old) (R.Raster.words slab.old) column }
+    ensures only { OnlyLowBits (R.Raster.at slab.old) (R.Raster.at slab.new) (R.Raster.rows slab.old) (R.Raster.words slab.old) column }
+    ensures few { FewDiffer (R.Raster.at slab.old) (R.Raster.at slab.new) (R.Raster.rows slab.old) (R.Raster.words slab.old) }
 {
     let window = window_of((*slab).extent(), column)?;
     embed_rows(slab, window, rows)

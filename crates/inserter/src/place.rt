@@ -1,7 +1,6 @@
 // Placing records on the macroblocks of an open picture.
-ghost use Rattle.std.specs.Prelude.{◌≡◌, ℕ, ◌+◌, ◌*◌, ◌/◌, ◌<◌, ◌≤◌, true, false, IfOk, Ok, ◌≢◌};
-ghost use Rattle.raster.specs.Difference.{differing};
-ghost use Rattle.column.specs.Column.{carrying, carried_rows};
+ghost use Rattle.std.specs.Prelude.{◌≡◌, ℕ, ◌<◌, IfOk, Ok};
+ghost use Rattle.column.specs.Column.{carried_rows, OthersKept, OnlyLowBits, FewDiffer};
 ghost use Rattle.block.specs.Code.{decoded};
 ghost use Rattle.fault.specs.Refusing.{done};
 ghost use Rattle.inserter.specs.Place.{flags_of, block_for, placing, placed_at, Ready};
@@ -28,9 +27,9 @@ impl Picture<'_> {
         ensures kept { R.Raster.kept slab.old slab.new }
         ensures after { (i j : ℕ) → i < R.Raster.rows slab.old → j < R.Raster.words slab.old → R.Raster.at slab.new i j ≡ placed_at (placing self.now.format self.now.first stripe column (R.Raster.rows slab.old) (R.Raster.words slab.old) image.now.bytes «record».now) (R.Raster.at slab.old) column i j }
         ensures reads { result ≡ Ok tt → decoded (carried_rows (R.Raster.at slab.new) column) ≡ Ok (block_for self.now.format self.now.first stripe column image.now.bytes «record».now) }
-        ensures others { (c : ℕ) → (c ≢ column) → 16 ≤ R.Raster.rows slab.old → 32 * c + 32 ≤ R.Raster.words slab.old → carried_rows (R.Raster.at slab.new) c ≡ carried_rows (R.Raster.at slab.old) c }
-        ensures only { (i j : ℕ) → i < R.Raster.rows slab.old → j < R.Raster.words slab.old → (R.Raster.at slab.new i j / 2 ≡ R.Raster.at slab.old i j / 2) × (carrying column i j ≡ false → R.Raster.at slab.new i j ≡ R.Raster.at slab.old i j) }
-        ensures few { differing (R.Raster.at slab.old) (R.Raster.at slab.new) (R.Raster.rows slab.old) (R.Raster.words slab.old) ≤ 256 }
+        ensures others { OthersKept (R.Raster.at slab.old) (R.Raster.at slab.new) (R.Raster.rows slab.old) (R.Raster.words slab.old) column }
+        ensures only { OnlyLowBits (R.Raster.at slab.old) (R.Raster.at slab.new) (R.Raster.rows slab.old) (R.Raster.words slab.old) column }
+        ensures few { FewDiffer (R.Raster.at slab.old) (R.Raster.at slab.new) (R.Raster.rows slab.old) (R.Raster.words slab.old) }
     {
         let block = self.block_for(stripe, column, (*slab).extent(), image, record)?;
         write_block(slab, column, &block)

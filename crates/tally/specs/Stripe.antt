@@ -4,11 +4,16 @@ use Rattle.fault.specs.declared.Fault.{Fault}
 use Rattle.record.specs.declared.record.Record.{Record}
 use Rattle.record.specs.declared.record.Block.{Block}
 use Rattle.slots.specs.declared.slot.Slot.{Slot}
-use Rattle.extractor.specs.Gather.{settled, elements_after, sheet_after}
+use Rattle.extractor.specs.declared.gathering.Gathering.{Gathering}
+use Rattle.extractor.specs.Gather.{settled, gathered, elements_after, sheet_after}
 use Rattle.tally.specs.declared.kind.Kind.{Kind}
 use Rattle.tally.specs.declared.kind.Kind.TheVariants.{Good, Foreign, Bad}
 use Rattle.tally.specs.declared.kind.Tally.{Tally}
 use Rattle.tally.specs.Kinds.{kind_of, same_kind}
+
+-- what gathering answers along a stripe, column by column
+abbrev pub answers_along : Gathering → ℕ → ℕ → ℕ → (ℕ → ℕ → ℕ) → ℕ → ℕ → ℕ → Result Block Fault
+answers_along g stripe rows words at slots sheet column = gathered g stripe column rows words at slots sheet
 
 -- how many of the first n answers are of a kind
 unfoldable pub count_of : Kind → (ℕ → Result Block Fault) → ℕ → ℕ

@@ -2,8 +2,7 @@
 ghost use Rattle.std.specs.Prelude.{◌≡◌, length};
 ghost use Rattle.slots.specs.declared.slot.State.{State};
 ghost use Rattle.slots.specs.Slots.{lowest_in};
-ghost use Rattle.extractor.specs.Gather.{gathered};
-ghost use Rattle.tally.specs.Stripe.{tallied, elements_offered, records_offered};
+ghost use Rattle.tally.specs.Stripe.{answers_along, tallied, elements_offered, records_offered};
 
 use crate::{Kind, Tally};
 use extractor::Gathering;
@@ -19,9 +18,9 @@ pub fn gather_stripe<R: Raster>(
     table: &mut Table<'_, u32>,
     sheet: &mut Table<'_, Record>,
 ) -> Tally
-    ensures tally { result ≡ tallied (λ c. gathered gathering.now stripe c (R.Raster.rows slab.now) (R.Raster.words slab.now) (R.Raster.at slab.now) (length table.old.slots.now) (length sheet.old.slots.now)) (length sheet.old.slots.now) }
-    ensures table { table.new.slots.now ≡ elements_offered (λ c. gathered gathering.now stripe c (R.Raster.rows slab.now) (R.Raster.words slab.now) (R.Raster.at slab.now) (length table.old.slots.now) (length sheet.old.slots.now)) stripe (length sheet.old.slots.now) table.old.slots.now }
-    ensures sheet { sheet.new.slots.now ≡ records_offered (λ c. gathered gathering.now stripe c (R.Raster.rows slab.now) (R.Raster.words slab.now) (R.Raster.at slab.now) (length table.old.slots.now) (length sheet.old.slots.now)) (length sheet.old.slots.now) sheet.old.slots.now }
+    ensures tally { result ≡ tallied (answers_along gathering.now stripe (R.Raster.rows slab.now) (R.Raster.words slab.now) (R.Raster.at slab.now) (length table.old.slots.now) (length sheet.old.slots.now)) (length sheet.old.slots.now) }
+    ensures table { table.new.slots.now ≡ elements_offered (answers_along gathering.now stripe (R.Raster.rows slab.now) (R.Raster.words slab.now) (R.Raster.at slab.now) (length table.old.slots.now) (length sheet.old.slots.now)) stripe (length sheet.old.slots.now) table.old.slots.now }
+    ensures sheet { sheet.new.slots.now ≡ records_offered (answers_along gathering.now stripe (R.Raster.rows slab.now) (R.Raster.words slab.now) (R.Raster.at slab.now) (length table.old.slots.now) (length sheet.old.slots.now)) (length sheet.old.slots.now) sheet.old.slots.now }
     ensures table_name { table.new.slots.ghost_name ≡ table.old.slots.ghost_name }
     ensures sheet_name { sheet.new.slots.ghost_name ≡ sheet.old.slots.ghost_name }
 {

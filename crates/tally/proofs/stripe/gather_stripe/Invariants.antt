@@ -1,7 +1,6 @@
 -- What the columns so far came to.
 use Rattle.std.proofs.Common.{◌≡◌, ℕ, length}
-use Rattle.extractor.specs.Gather.{gathered}
-use Rattle.tally.specs.Stripe.{tallied, elements_offered, records_offered}
+use Rattle.tally.specs.Stripe.{answers_along, tallied, elements_offered, records_offered}
 use Rattle.tally.proofs.stripe.gather_stripe.Given as goal
 
 abbrev pub invariant-loop-column : goal.invariant-loop-column
@@ -9,7 +8,7 @@ invariant-loop-column g l =
     let m = g.R.Raster in
     let slots = l.initial.table.slots.now in
     let sheet = l.initial.sheet.slots.now in
-    let answers = λ (c : ℕ). gathered l.gathering l.stripe c (m.rows l.slab) (m.words l.slab) (m.at l.slab) (length slots) (length sheet) in
+    let answers = answers_along l.gathering l.stripe (m.rows l.slab) (m.words l.slab) (m.at l.slab) (length slots) (length sheet) in
     (l.tally ≡ tallied answers l.column)
     × (l.table.slots.now ≡ elements_offered answers l.stripe l.column slots)
     × (l.sheet.slots.now ≡ records_offered answers l.column sheet)
