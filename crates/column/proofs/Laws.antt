@@ -1,11 +1,9 @@
 -- The laws of an embedding, over the words before and after as plain functions.
-use Rattle.std.proofs.Common.{◌≡◌, ℕ, zero, suc, ◌+◌, ◌-◌, ◌*◌, ◌/◌, ◌%◌, ◌<◌, ◌≤◌, Bool, true, false, cond, ◌&&◌, eqb, ltb, leb, List, length, get_or, sym, refl, ap, ◌∙◌, inl, inr, add-one, arith}
-use native.Mathlib.Nat.{sub-zero}
+use Rattle.std.proofs.Common.{◌≡◌, ℕ, zero, suc, ◌+◌, ◌-◌, ◌*◌, ◌/◌, ◌%◌, ◌<◌, ◌≤◌, Bool, true, false, cond, ◌&&◌, eqb, ltb, List, length, get_or, sym, refl, ap, ◌∙◌, inl, inr, add-one, arith}
 use Rattle.std.proofs.lemmas.Bool.{cases_lt, eq-eqb, true≢false}
 use Rattle.std.proofs.lemmas.Bool.Decides.{nat_tests}
 use Rattle.raster.specs.Difference.{differing_words, differing}
 use Rattle.raster.proofs.Differences.{words_none, words_more, rows_none, rows_more}
-use Rattle.column.specs.declared.column.Window.{Window}
 use Rattle.column.specs.Column.{carrying, bit_at, embedded, carried_rows}
 use Rattle.column.specs.Window.{among, rows_to}
 use Rattle.column.proofs.Steps.{place_bit}
@@ -28,15 +26,15 @@ past_idle : (c i j : ℕ) → 16 ≤ i → carrying c i j ≡ false
 past_idle c i j h = grind (arith, nat_tests)
 
 -- embedding in the column's window is embedding in the column
-row_and_place : (c i j : ℕ) → carrying c i j ≡ ((leb 0 i && ltb i 16) && among (32 * c) 16 j)
+row_and_place : (c i j : ℕ) → carrying c i j ≡ (ltb i 16 && among (32 * c) 16 j)
 row_and_place c i j = grind (arith, nat_tests)
 
 cond_twice : (p q : Bool) (x y : ℕ) → cond p (cond q x y) y ≡ cond (p && q) x y
 cond_twice true q x y = refl
 cond_twice false q x y = refl
 
-pub window_embeds : (at : ℕ → ℕ → ℕ) (w : Window) (c : ℕ) (block : List ℕ) (i j : ℕ) → w ≡ record { row = 0; word = 32 * c } → rows_to at w block 16 i j ≡ embedded at c block i j
-window_embeds at w c block i j e = rw (e, sub-zero i, row_and_place c i j) (cond_twice (leb 0 i && ltb i 16) (among (32 * c) 16 j) _ _)
+pub window_embeds : (at : ℕ → ℕ → ℕ) (first c : ℕ) (block : List ℕ) (i j : ℕ) → first ≡ 32 * c → rows_to at first block 16 i j ≡ embedded at c block i j
+window_embeds at first c block i j e = rw (e, row_and_place c i j) (cond_twice (ltb i 16) (among (32 * c) 16 j) _ _)
 
 -- the rows embedded are the rows carried
 module _ (at at' : ℕ → ℕ → ℕ) (rows words c : ℕ) (block : List ℕ) (hr : 16 ≤ rows) (hw : 32 * c + 32 ≤ words)

@@ -2,7 +2,6 @@
 use Rattle.std.proofs.Common.{◌≡◌, ℕ, zero, suc, ◌+◌, ◌-◌, ◌*◌, ◌/◌, ◌%◌, ◌^◌, ◌<◌, ◌≤◌, List, length, get_or, sym, refl, ◌∙◌, pow-suc, add-one, arith, pow_mono}
 use Rattle.std.proofs.lemmas.Nat.{mod-pow-add, shr-shr}
 use Rattle.std.proofs.lemmas.List.FromFn.{fill_by_all, get_or-map-range_with_len}
-use Rattle.column.specs.declared.column.Window.{Window}
 use Rattle.column.specs.Scramble.{parity, scrambled, unscrambled}
 use Rattle.column.specs.Column.{bit_at, laden, spelled, carried_row, carried_rows}
 use Rattle.column.specs.Window.{rows_of}
@@ -88,6 +87,6 @@ unfolding carried_rows
 carried_is at c block h rows = sym (fill_by_all (carried_row at c) block 16 0 h (λ i l. sym (rows i l)))
 
 -- and they are those of its window
-pub window_rows : (at : ℕ → ℕ → ℕ) (w : Window) (c : ℕ) → w ≡ record { row = 0; word = 32 * c } → rows_of at w ≡ carried_rows at c
+pub window_rows : (at : ℕ → ℕ → ℕ) (first c : ℕ) → first ≡ 32 * c → rows_of at first ≡ carried_rows at c
 unfolding rows_of carried_rows
-window_rows at w c e = rw e
+window_rows at first c e = rw e

@@ -1,9 +1,8 @@
 -- The steps of an embedding: one bit more of a row, and one row more of a window.
-use Rattle.std.proofs.Common.{◌≡◌, ℕ, ◌+◌, ◌-◌, ◌*◌, ◌/◌, ◌%◌, ◌<◌, ◌≤◌, Bool, true, false, cond, ◌&&◌, eqb, ltb, leb, List, get_or, refl, ◌∙◌, inl, inr, arith}
+use Rattle.std.proofs.Common.{◌≡◌, ℕ, ◌+◌, ◌-◌, ◌*◌, ◌/◌, ◌%◌, ◌<◌, ◌≤◌, Bool, true, false, cond, eqb, ltb, List, get_or, refl, ◌∙◌, inl, inr, arith}
 use Rattle.std.proofs.lemmas.Bool.{cases_eq, eq-eqb, ne_eqb}
 use Rattle.std.proofs.lemmas.Bool.Decides.{nat_tests}
 use Rattle.raster.specs.Meaning.{replaced, with_bit}
-use Rattle.column.specs.declared.column.Window.{Window}
 use Rattle.column.specs.Scramble.{scrambled, is_one, one_if}
 use Rattle.column.specs.Column.{bit_at, laden}
 use Rattle.column.specs.Window.{among, line_to, rows_to}
@@ -36,19 +35,16 @@ module _ (first k : ℕ) where
   pub place_bit : (first + 2 * k - first) / 2 ≡ k
   place_bit = omega arith
 
--- i is one of the first n rows from the row `first` on
-module _ (first n : ℕ) where
-  past : (leb first (first + n) && ltb (first + n) (first + n)) ≡ false
+-- row n is not one of the first n rows, but of one more; any other row is of these if it is of those
+module _ (n : ℕ) where
+  past : ltb n n ≡ false
   past = grind (arith, nat_tests)
 
-  just : (leb first (first + n) && ltb (first + n) (first + (n + 1))) ≡ true
+  just : ltb n (n + 1) ≡ true
   just = grind (arith, nat_tests)
 
-  before : (i : ℕ) → (i ≡ first + n → ⊥) → (leb first i && ltb i (first + (n + 1))) ≡ (leb first i && ltb i (first + n))
+  before : (i : ℕ) → (i ≡ n → ⊥) → ltb i (n + 1) ≡ ltb i n
   before i h = grind (arith, nat_tests)
-
-  index : first + n - first ≡ n
-  index = omega arith
 
 -- one bit more of a row
 module _ (at₀ at₁ at₂ : ℕ → ℕ → ℕ) (rows words r first v k : ℕ) (b : Bool) (eb : b ≡ is_one (bit_at v k)) (hk : k < 16) (hr : r < rows) (hw : first + 32 ≤ words)
@@ -84,15 +80,15 @@ module _ (a b : ℕ → ℕ) (words first row n : ℕ) (hw : first + 2 * n ≤ w
   line_like j hj false t = rw t (same j hj)
 
 -- one row more of a window
-module _ (at₀ at₁ at₂ : ℕ → ℕ → ℕ) (rows words : ℕ) (w : Window) (block : List ℕ) (n v : ℕ) (ev : v ≡ get_or block n 0) (hn : w.row + n < rows) (hw : w.word + 32 ≤ words)
-    (h₁ : (i j : ℕ) → i < rows → j < words → at₁ i j ≡ rows_to at₀ w block n i j)
-    (h₂ : (i j : ℕ) → i < rows → j < words → at₂ i j ≡ cond (eqb i (w.row + n)) (line_to (at₁ i) w.word v 16 j) (at₁ i j)) where
-  row_yet : (j : ℕ) → j < words → at₁ (w.row + n) j ≡ at₀ (w.row + n) j
-  row_yet j hj = h₁ (w.row + n) j hn hj ∙ rw (past w.row n)
+module _ (at₀ at₁ at₂ : ℕ → ℕ → ℕ) (rows words first : ℕ) (block : List ℕ) (n v : ℕ) (ev : v ≡ get_or block n 0) (hn : n < rows) (hw : first + 32 ≤ words)
+    (h₁ : (i j : ℕ) → i < rows → j < words → at₁ i j ≡ rows_to at₀ first block n i j)
+    (h₂ : (i j : ℕ) → i < rows → j < words → at₂ i j ≡ cond (eqb i n) (line_to (at₁ i) first v 16 j) (at₁ i j)) where
+  row_yet : (j : ℕ) → j < words → at₁ n j ≡ at₀ n j
+  row_yet j hj = h₁ n j hn hj ∙ rw (past n)
 
-  pub row_more : (i j : ℕ) → i < rows → j < words → at₂ i j ≡ rows_to at₀ w block (n + 1) i j
+  pub row_more : (i j : ℕ) → i < rows → j < words → at₂ i j ≡ rows_to at₀ first block (n + 1) i j
   row_more i j hi hj =
-      elim (cases_eq i (w.row + n)) [
-        | inl e ↦ h₂ i j hi hj ∙ rw (e, eq-eqb (w.row + n) (w.row + n) refl, just w.row n, index w.row n, ev) (line_like (at₁ (w.row + n)) (at₀ (w.row + n)) words w.word (get_or block n 0) 16 hw row_yet j hj (among w.word 16 j) refl)
-        | inr ne ↦ h₂ i j hi hj ∙ rw (ne_eqb i (w.row + n) ne) (h₁ i j hi hj ∙ rw (before w.row n i ne))
+      elim (cases_eq i n) [
+        | inl e ↦ h₂ i j hi hj ∙ rw (e, eq-eqb n n refl, just n, ev) (line_like (at₁ n) (at₀ n) words first (get_or block n 0) 16 hw row_yet j hj (among first 16 j) refl)
+        | inr ne ↦ h₂ i j hi hj ∙ rw (ne_eqb i n ne) (h₁ i j hi hj ∙ rw (before n i ne))
       ]

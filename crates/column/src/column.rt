@@ -21,36 +21,29 @@ pub fn embed<R: Raster>(slab: &mut R, column: usize, rows: &[u16; 16]) -> Result
     ensures only { OnlyLowBits (R.Raster.at slab.old) (R.Raster.at slab.new) (R.Raster.rows slab.old) (R.Raster.words slab.old) column }
     ensures few { FewDiffer (R.Raster.at slab.old) (R.Raster.at slab.new) (R.Raster.rows slab.old) (R.Raster.words slab.old) }
 {
-    let window = window_of((*slab).extent(), column)?;
-    embed_rows(slab, window, rows)
+    let first = first_word((*slab).extent(), column)?;
+    embed_rows(slab, first, rows)
 }
 
 // The rows of the block that a column carries, with the refusals of `embed`.
 pub fn carried<R: Raster>(slab: &R, column: usize) -> Result<[u16; 16], Fault>
     ensures { result ≡ within (R.Raster.rows slab.now) (R.Raster.words slab.now) column (carried_rows (R.Raster.at slab.now) column) }
 {
-    let window = window_of(slab.extent(), column)?;
-    Seen { slab, window }.rows()
+    let first = first_word(slab.extent(), column)?;
+    Seen { slab, first }.rows()
 }
 
 // Whether a raster of this extent is a slab, and the column lies wholly inside it.
 pub fn check_column(extent: Extent, column: usize) -> Result<(), Fault>
     ensures { result ≡ within extent.rows extent.words column tt }
 {
-    window_of(extent, column)?;
+    first_word(extent, column)?;
     Ok(())
 }
 
-// The window of 16 rows and 32 words that a column is, as plain numbers: its first row and its first word.
-#[derive(Clone, Copy)]
-struct Window {
-    row: usize,
-    word: usize,
-}
-
-// The one place that refuses.
-fn window_of(extent: Extent, column: usize) -> Result<Window, Fault>
-    ensures { result ≡ within extent.rows extent.words column (record { row = 0; word = 32 * column }) }
+// The first word of a column's window, which is 32 words of each of the 16 rows. The one place that refuses.
+fn first_word(extent: Extent, column: usize) -> Result<usize, Fault>
+    ensures { result ≡ within extent.rows extent.words column (32 * column) }
 {
     if extent.rows != 16 {
         return Err(Fault::SlabExtent);
@@ -58,36 +51,33 @@ fn window_of(extent: Extent, column: usize) -> Result<Window, Fault>
     if column >= extent.words / 32 {
         return Err(Fault::NotInFormat);
     }
-    Ok(Window {
-        row: 0,
-        word: 32 * column,
-    })
+    Ok(32 * column)
 }
 
 // Each row of the block into its row of the window. That the window lies in the slab is asked of each function that writes: a struct over the
 // lent slab would have each say instead that its window and its loan stay, which is more.
-fn embed_rows<R: Raster>(slab: &mut R, window: Window, rows: &[u16; 16]) -> Result<(), Fault>
-    requires { Lies window (R.Raster.rows slab.old) (R.Raster.words slab.old) }
+fn embed_rows<R: Raster>(slab: &mut R, first: usize, rows: &[u16; 16]) -> Result<(), Fault>
+    requires { Lies first (R.Raster.rows slab.old) (R.Raster.words slab.old) }
     ensures answer { result ≡ Ok tt }
     ensures kept { R.Raster.kept slab.old slab.new }
-    ensures after { (i j : ℕ) → i < R.Raster.rows slab.old → j < R.Raster.words slab.old → R.Raster.at slab.new i j ≡ rows_to (R.Raster.at slab.old) window rows.now 16 i j }
+    ensures after { (i j : ℕ) → i < R.Raster.rows slab.old → j < R.Raster.words slab.old → R.Raster.at slab.new i j ≡ rows_to (R.Raster.at slab.old) first rows.now 16 i j }
 {
     // By try_for_each the proof does not close, here and below: it does not know what a closure leaves in a slab that is lent to it.
     for (row, value) in rows.iter().enumerate() {
-        embed_row(slab, window, row, *value)?;
+        embed_row(slab, first, row, *value)?;
     }
     Ok(())
 }
 
 // Each bit of a row into its chroma word, the most significant first.
-fn embed_row<R: Raster>(slab: &mut R, window: Window, row: usize, value: u16) -> Result<(), Fault>
-    requires { (Lies window (R.Raster.rows slab.old) (R.Raster.words slab.old)) × (row < 16) }
+fn embed_row<R: Raster>(slab: &mut R, first: usize, row: usize, value: u16) -> Result<(), Fault>
+    requires { (Lies first (R.Raster.rows slab.old) (R.Raster.words slab.old)) × (row < 16) }
     ensures answer { result ≡ Ok tt }
     ensures kept { R.Raster.kept slab.old slab.new }
-    ensures after { (i j : ℕ) → i < R.Raster.rows slab.old → j < R.Raster.words slab.old → R.Raster.at slab.new i j ≡ (if nat_eq i (window.row + row) then line_to (R.Raster.at slab.old i) window.word value 16 j else R.Raster.at slab.old i j) }
+    ensures after { (i j : ℕ) → i < R.Raster.rows slab.old → j < R.Raster.words slab.old → R.Raster.at slab.new i j ≡ (if nat_eq i row then line_to (R.Raster.at slab.old i) first value 16 j else R.Raster.at slab.old i j) }
 {
     for k in 0..16 {
-        embed_bit(slab, window, row, k, bit_of(value, k))?;
+        embed_bit(slab, first, row, k, bit_of(value, k))?;
     }
     Ok(())
 }
@@ -103,40 +93,36 @@ fn bit_of(value: u16, k: usize) -> bool
 // One bit: two looks and one set.
 fn embed_bit<R: Raster>(
     slab: &mut R,
-    window: Window,
+    first: usize,
     row: usize,
     k: usize,
     bit: bool,
 ) -> Result<(), Fault>
-    requires { (Lies window (R.Raster.rows slab.old) (R.Raster.words slab.old)) × ((row < 16) × (k < 16)) }
+    requires { (Lies first (R.Raster.rows slab.old) (R.Raster.words slab.old)) × ((row < 16) × (k < 16)) }
     ensures answer { result ≡ Ok tt }
     ensures kept { R.Raster.kept slab.old slab.new }
-    ensures after { (i j : ℕ) → i < R.Raster.rows slab.old → j < R.Raster.words slab.old → R.Raster.at slab.new i j ≡ replaced (R.Raster.at slab.old) (window.row + row) (window.word + 2 * k) (is_one (scrambled (R.Raster.at slab.old (window.row + row) (window.word + 2 * k)) (R.Raster.at slab.old (window.row + row) (window.word + 2 * k + 1)) (one_if bit))) i j }
+    ensures after { (i j : ℕ) → i < R.Raster.rows slab.old → j < R.Raster.words slab.old → R.Raster.at slab.new i j ≡ replaced (R.Raster.at slab.old) row (first + 2 * k) (is_one (scrambled (R.Raster.at slab.old row (first + 2 * k)) (R.Raster.at slab.old row (first + 2 * k + 1)) (one_if bit))) i j }
 {
     let (chroma, luma) = Seen {
         slab: &*slab,
-        window,
+        first,
     }
     .pair(row, k)?;
-    slab.set(
-        window.row + row,
-        window.word + 2 * k,
-        scrambled_bit(chroma, luma, bit),
-    )
+    slab.set(row, first + 2 * k, scrambled_bit(chroma, luma, bit))
 }
 
 // A window in a slab, inside which it lies, to be read.
 #[derive(Drop)]
 struct Seen<'a, R: Raster> {
     slab: &'a R,
-    window: Window,
-    ghost lies: { Lies window (R.Raster.rows slab.now) (R.Raster.words slab.now) },
+    first: usize,
+    ghost lies: { Lies first (R.Raster.rows slab.now) (R.Raster.words slab.now) },
 }
 
 impl<R: Raster> Seen<'_, R> {
     // Each row that the window carries.
     fn rows(&self) -> Result<[u16; 16], Fault>
-        ensures { result ≡ Ok (rows_of (R.Raster.at self.now.slab.now) self.now.window) }
+        ensures { result ≡ Ok (rows_of (R.Raster.at self.now.slab.now) self.now.first) }
     {
         let mut rows = [0u16; 16];
         // By try_from_fn the proof does not close: it does not say that the closure which answered is the one that was passed.
@@ -149,7 +135,7 @@ impl<R: Raster> Seen<'_, R> {
     // The row that the chroma words of a row carry, the most significant bit first.
     fn row(&self, row: usize) -> Result<u16, Fault>
         requires { row < 16 }
-        ensures { result ≡ Ok (row_of (R.Raster.at self.now.slab.now) self.now.window row) }
+        ensures { result ≡ Ok (row_of (R.Raster.at self.now.slab.now) self.now.first row) }
     {
         (0..16).try_fold(0, |before, k| self.bit(row, k, before))
     }
@@ -157,8 +143,8 @@ impl<R: Raster> Seen<'_, R> {
     // The bits before bit k, and that bit after them: two looks.
     #[tactic(auto, using(crate::proofs::Spelled::spelled_more, crate::proofs::Spelled::spelled_below))]
     fn bit(&self, row: usize, k: usize, before: u16) -> Result<u16, Fault>
-        requires { (row < 16) × ((k < 16) × (before ≡ spelled (R.Raster.at self.now.slab.now (self.now.window.row + row)) self.now.window.word k)) }
-        ensures { result ≡ Ok (spelled (R.Raster.at self.now.slab.now (self.now.window.row + row)) self.now.window.word (k + 1)) }
+        requires { (row < 16) × ((k < 16) × (before ≡ spelled (R.Raster.at self.now.slab.now row) self.now.first k)) }
+        ensures { result ≡ Ok (spelled (R.Raster.at self.now.slab.now row) self.now.first (k + 1)) }
     {
         let (chroma, luma) = self.pair(row, k)?;
         Ok(before * 2 + u16::from(carried_bit(chroma, luma)))
@@ -167,11 +153,10 @@ impl<R: Raster> Seen<'_, R> {
     // The chroma word of bit k of a row, and the luma word after it.
     fn pair(&self, row: usize, k: usize) -> Result<(u16, u16), Fault>
         requires { (row < 16) × (k < 16) }
-        ensures { result ≡ Ok (R.Raster.at self.now.slab.now (self.now.window.row + row) (self.now.window.word + 2 * k), R.Raster.at self.now.slab.now (self.now.window.row + row) (self.now.window.word + 2 * k + 1)) }
+        ensures { result ≡ Ok (R.Raster.at self.now.slab.now row (self.now.first + 2 * k), R.Raster.at self.now.slab.now row (self.now.first + 2 * k + 1)) }
     {
-        let Window { row: first, word } = self.window;
-        let chroma = self.slab.look(first + row, word + 2 * k)?;
-        let luma = self.slab.look(first + row, word + 2 * k + 1)?;
+        let chroma = self.slab.look(row, self.first + 2 * k)?;
+        let luma = self.slab.look(row, self.first + 2 * k + 1)?;
         Ok((chroma, luma))
     }
 }

@@ -7,4 +7,4 @@ abbrev pub invariant-loop-row : goal.invariant-loop-row
 invariant-loop-row g l =
     let m = g.R.Raster in
     m.kept l.initial.slab l.slab
-    × ((i j : ℕ) → i < m.rows l.initial.slab → j < m.words l.initial.slab → m.at l.slab i j ≡ rows_to (m.at l.initial.slab) l.window l.rows l.row i j)
+    × ((i j : ℕ) → i < m.rows l.initial.slab → j < m.words l.initial.slab → m.at l.slab i j ≡ rows_to (m.at l.initial.slab) l.first l.rows l.row i j)
