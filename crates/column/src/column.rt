@@ -54,6 +54,14 @@ fn first_word(extent: Extent, column: usize) -> Result<usize, Fault>
     Ok(32 * column)
 }
 
+// Where a bit of the block travels: its row, and its number in the row, 0 for the most significant.
+#[derive(Clone, Copy)]
+struct BitPlace {
+    row: usize,
+    k: usize,
+    ghost inside: { (row < 16) × (k < 16) },
+}
+
 // Each row of the block into its row of the window. That the window lies in the slab is asked of each function that writes: a struct over the
 // lent slab would have each say instead that its window and its loan stay, which is more.
 fn embed_rows<R: Raster>(slab: &mut R, first: usize, rows: &[u16; 16]) -> Result<(), Fault>
@@ -77,7 +85,7 @@ fn embed_row<R: Raster>(slab: &mut R, first: usize, row: usize, value: u16) -> R
     ensures after { (i j : ℕ) → i < R.Raster.rows slab.old → j < R.Raster.words slab.old → R.Raster.at slab.new i j ≡ (if nat_eq i row then line_to (R.Raster.at slab.old i) first value 16 j else R.Raster.at slab.old i j) }
 {
     for k in 0..16 {
-        embed_bit(slab, first, row, k, bit_of(value, k))?;
+        embed_bit(slab, first, BitPlace { row, k }, bit_of(value, k))?;
     }
     Ok(())
 }
@@ -91,24 +99,22 @@ fn bit_of(value: u16, k: usize) -> bool
 }
 
 // One bit: two looks and one set.
-fn embed_bit<R: Raster>(
-    slab: &mut R,
-    first: usize,
-    row: usize,
-    k: usize,
-    bit: bool,
-) -> Result<(), Fault>
-    requires { (Lies first (R.Raster.rows slab.old) (R.Raster.words slab.old)) × ((row < 16) × (k < 16)) }
+fn embed_bit<R: Raster>(slab: &mut R, first: usize, place: BitPlace, bit: bool) -> Result<(), Fault>
+    requires { Lies first (R.Raster.rows slab.old) (R.Raster.words slab.old) }
     ensures answer { result ≡ Ok tt }
     ensures kept { R.Raster.kept slab.old slab.new }
-    ensures after { (i j : ℕ) → i < R.Raster.rows slab.old → j < R.Raster.words slab.old → R.Raster.at slab.new i j ≡ replaced (R.Raster.at slab.old) row (first + 2 * k) (is_one (scrambled (R.Raster.at slab.old row (first + 2 * k)) (R.Raster.at slab.old row (first + 2 * k + 1)) (one_if bit))) i j }
+    ensures after { (i j : ℕ) → i < R.Raster.rows slab.old → j < R.Raster.words slab.old → R.Raster.at slab.new i j ≡ replaced (R.Raster.at slab.old) place.row (first + 2 * place.k) (is_one (scrambled (R.Raster.at slab.old place.row (first + 2 * place.k)) (R.Raster.at slab.old place.row (first + 2 * place.k + 1)) (one_if bit))) i j }
 {
     let (chroma, luma) = Seen {
         slab: &*slab,
         first,
     }
-    .pair(row, k)?;
-    slab.set(row, first + 2 * k, scrambled_bit(chroma, luma, bit))
+    .pair(place)?;
+    slab.set(
+        place.row,
+        first + 2 * place.k,
+        scrambled_bit(chroma, luma, bit),
+    )
 }
 
 // A window in a slab, inside which it lies, to be read.
@@ -137,26 +143,30 @@ impl<R: Raster> Seen<'_, R> {
         requires { row < 16 }
         ensures { result ≡ Ok (row_of (R.Raster.at self.now.slab.now) self.now.first row) }
     {
-        (0..16).try_fold(0, |before, k| self.bit(row, k, before))
+        (0..16).try_fold(
+            0,
+            |before, k|
+                requires { (row < 16) × ((k < 16) × (before ≡ spelled (R.Raster.at self.now.slab.now row) self.now.first k)) }
+            { self.bit(BitPlace { row, k }, before) },
+        )
     }
 
     // The bits before bit k, and that bit after them: two looks.
     #[tactic(auto, using(crate::proofs::Spelled::spelled_more, crate::proofs::Spelled::spelled_below))]
-    fn bit(&self, row: usize, k: usize, before: u16) -> Result<u16, Fault>
-        requires { (row < 16) × ((k < 16) × (before ≡ spelled (R.Raster.at self.now.slab.now row) self.now.first k)) }
-        ensures { result ≡ Ok (spelled (R.Raster.at self.now.slab.now row) self.now.first (k + 1)) }
+    fn bit(&self, place: BitPlace, before: u16) -> Result<u16, Fault>
+        requires { before ≡ spelled (R.Raster.at self.now.slab.now place.row) self.now.first place.k }
+        ensures { result ≡ Ok (spelled (R.Raster.at self.now.slab.now place.row) self.now.first (place.k + 1)) }
     {
-        let (chroma, luma) = self.pair(row, k)?;
+        let (chroma, luma) = self.pair(place)?;
         Ok(before * 2 + u16::from(carried_bit(chroma, luma)))
     }
 
     // The chroma word of bit k of a row, and the luma word after it.
-    fn pair(&self, row: usize, k: usize) -> Result<(u16, u16), Fault>
-        requires { (row < 16) × (k < 16) }
-        ensures { result ≡ Ok (R.Raster.at self.now.slab.now row (self.now.first + 2 * k), R.Raster.at self.now.slab.now row (self.now.first + 2 * k + 1)) }
+    fn pair(&self, place: BitPlace) -> Result<(u16, u16), Fault>
+        ensures { result ≡ Ok (R.Raster.at self.now.slab.now place.row (self.now.first + 2 * place.k), R.Raster.at self.now.slab.now place.row (self.now.first + 2 * place.k + 1)) }
     {
-        let chroma = self.slab.look(row, self.first + 2 * k)?;
-        let luma = self.slab.look(row, self.first + 2 * k + 1)?;
+        let chroma = self.slab.look(place.row, self.first + 2 * place.k)?;
+        let luma = self.slab.look(place.row, self.first + 2 * place.k + 1)?;
         Ok((chroma, luma))
     }
 }
