@@ -2,7 +2,7 @@
 ghost use Rattle.std.specs.Prelude.{◌≡◌, ℕ, ◌^◌, ◌<◌, ◌≤◌, min, if◌then◌else◌, Ok, ◌==◌};
 ghost use Rattle.raster.specs.Difference.{differing_words, differing};
 
-use crate::Raster;
+use crate::{Extent, Raster};
 use fault::Fault;
 
 // How many words differ, of the rows and words that both rasters have. The count of any two rasters fits.
@@ -11,48 +11,48 @@ pub fn count_differing<P: Raster, Q: Raster>(a: &P, b: &Q) -> Result<u128, Fault
 {
     let left = a.extent();
     let right = b.extent();
-    differing_in_rows(a, b, left.rows.min(right.rows), left.words.min(right.words))
+    let both = Extent {
+        rows: left.rows.min(right.rows),
+        words: left.words.min(right.words),
+    };
+    Pair { a, b, both }.differing()
 }
 
-// How many words differ, of the first rows, of so many words each.
-fn differing_in_rows<P: Raster, Q: Raster>(
-    a: &P,
-    b: &Q,
-    rows: usize,
-    words: usize,
-) -> Result<u128, Fault>
-    requires { (rows ≤ P.Raster.rows a.now) × ((words ≤ P.Raster.words a.now) × ((rows ≤ Q.Raster.rows b.now) × (words ≤ Q.Raster.words b.now))) }
-    ensures { result ≡ Ok (differing (P.Raster.at a.now) (Q.Raster.at b.now) rows words) }
-{
-    (0..rows).try_fold(0u128, |count, row| {
-        Ok(count + differing_in_row(a, b, row, words)? as u128)
-    })
+// Two rasters, and the rows and words that both have.
+#[derive(Drop)]
+struct Pair<'a, P: Raster, Q: Raster> {
+    a: &'a P,
+    b: &'a Q,
+    both: Extent,
+    ghost fits: { (both.rows < 2 ^ 64) × (both.words < 2 ^ 64) },
+    ghost inside: { ((both.rows ≤ P.Raster.rows a.now) × (both.words ≤ P.Raster.words a.now)) × ((both.rows ≤ Q.Raster.rows b.now) × (both.words ≤ Q.Raster.words b.now)) },
 }
 
-// How many differ, of the first words of a row.
-fn differing_in_row<P: Raster, Q: Raster>(
-    a: &P,
-    b: &Q,
-    row: usize,
-    words: usize,
-) -> Result<usize, Fault>
-    requires { (row < P.Raster.rows a.now) × ((words ≤ P.Raster.words a.now) × ((row < Q.Raster.rows b.now) × (words ≤ Q.Raster.words b.now))) }
-    ensures { result ≡ Ok (differing_words (P.Raster.at a.now row) (Q.Raster.at b.now row) words) }
-{
-    (0..words).try_fold(0, |count, place| {
-        Ok(count + differing_at(a, b, row, place)?)
-    })
-}
+impl<P: Raster, Q: Raster> Pair<'_, P, Q> {
+    // How many words differ.
+    fn differing(&self) -> Result<u128, Fault>
+        ensures { result ≡ Ok (differing (P.Raster.at self.now.a.now) (Q.Raster.at self.now.b.now) self.now.both.rows self.now.both.words) }
+    {
+        (0..self.both.rows).try_fold(0u128, |count, row| {
+            Ok(count + self.differing_in_row(row)? as u128)
+        })
+    }
 
-// 1 if the words at a row and a place differ, else 0.
-fn differing_at<P: Raster, Q: Raster>(
-    a: &P,
-    b: &Q,
-    row: usize,
-    place: usize,
-) -> Result<usize, Fault>
-    requires { (row < P.Raster.rows a.now) × ((place < P.Raster.words a.now) × ((row < Q.Raster.rows b.now) × (place < Q.Raster.words b.now))) }
-    ensures { result ≡ Ok (if P.Raster.at a.now row place == Q.Raster.at b.now row place then 0 else 1) }
-{
-    Ok(usize::from(a.look(row, place)? != b.look(row, place)?))
+    // How many words of a row differ.
+    fn differing_in_row(&self, row: usize) -> Result<usize, Fault>
+        requires { row < self.now.both.rows }
+        ensures { result ≡ Ok (differing_words (P.Raster.at self.now.a.now row) (Q.Raster.at self.now.b.now row) self.now.both.words) }
+    {
+        (0..self.both.words).try_fold(0, |count, place| {
+            Ok(count + self.differing_at(row, place)?)
+        })
+    }
+
+    // 1 if the words at a row and a place differ, else 0.
+    fn differing_at(&self, row: usize, place: usize) -> Result<usize, Fault>
+        requires { (row < self.now.both.rows) × (place < self.now.both.words) }
+        ensures { result ≡ Ok (if P.Raster.at self.now.a.now row place == Q.Raster.at self.now.b.now row place then 0 else 1) }
+    {
+        Ok(usize::from(self.a.look(row, place)? != self.b.look(row, place)?))
+    }
 }
