@@ -38,14 +38,14 @@ fn is_fitting(rows: &[u16; 16]) -> bool
     spelled_check(rows) == check(&rows[0..14])
 }
 
-// The number that the last two rows spell, by shifts: the library joins bytes alone, not rows.
+// The number that the last two rows spell, by a shift: to part the rows into bytes for `from_be_bytes` is no plainer.
 fn spelled_check(rows: &[u16; 16]) -> u32
     ensures { result ≡ spelled_at rows.now 14 }
 {
     u32::from(rows[14]) << 16 | u32::from(rows[15])
 }
 
-// The rows and their check, parted by shifts: the library parts a number into bytes alone, not rows.
+// The rows and their check, parted by a shift and a mask: to join the bytes of `to_be_bytes` by twos is no plainer.
 fn checked(rows: &[u16; 14]) -> [u16; 16]
     ensures { result ≡ with_check rows.now }
 {

@@ -62,7 +62,7 @@ fn element_at(table: &Table<'_, u32>, i: usize) -> u32
     held_in(table.slot(i).unwrap())
 }
 
-// The element that a slot holds; none is 0.
+// The element that a slot holds. No option: where this is called each slot holds one, as `collect` has judged, so that the 0 is never read.
 fn held_in(slot: Slot<u32>) -> u32
     ensures { result ≡ held_in slot }
 {

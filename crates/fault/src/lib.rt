@@ -115,7 +115,7 @@ impl Fault {
     }
 }
 
-// Refusals are equal exactly if they have the same number and the same place.
+// `==` holds of a refusal and itself, and of no two others.
 impl Exact for Fault {
     ghost exact = { λ x y. Prim.search rules };
 }

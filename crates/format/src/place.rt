@@ -11,7 +11,7 @@ pub const ELEMENTS: usize = 135;
 // References go from 0 to the last one, and on from 0 again.
 pub const LAST_REFERENCE: u16 = 65520;
 
-const REFERENCES: usize = 65521;
+const REFERENCES: usize = LAST_REFERENCE as usize + 1;
 
 // The first reference of a picture, of that number. Refuses one above 65520.
 pub fn first_reference(number: u32) -> Result<u16, Fault>

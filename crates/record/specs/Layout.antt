@@ -1,6 +1,6 @@
 -- The layout of a block: one table, and what encoder and decoder make of it.
 -- A block has 16 rows of 16 bits, each filled from the most significant bit. Rows 0 to 13 are the data rows, in the table below. Row 14 is
--- the high half and row 15 the low half of the check over them: `with_check` of the crate `check`, put together in the crate `block`.
+-- the high half and row 15 the low half of the check over them: `with_check` of the crate `crc`, put together in the crate `block`.
 use Rattle.std.specs.Prelude.{ℕ, suc, ◌+◌, ◌-◌, ◌*◌, ◌/◌, ◌%◌, ◌^◌, Bool, true, false, cond, ◌&&◌, List, [], ◌∷◌, map, ℤ, pos, negsuc, ◌==◌, nat_lt, slice_index, slice_index_or}
 use Rattle.record.specs.declared.record.Record.{Record}
 use Rattle.record.specs.declared.record.PictureFlags.{PictureFlags}

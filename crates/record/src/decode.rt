@@ -71,7 +71,7 @@ fn reference_of(rows: &[u16; 14]) -> u16
     rows[1]
 }
 
-// Element, by shifts: the library joins bytes alone, not rows.
+// Element, by a shift: to part the rows into bytes for `from_be_bytes` is no plainer.
 fn element_of(rows: &[u16; 14]) -> u32
     ensures { result ≡ found rows.now Element }
 {

@@ -92,7 +92,7 @@ impl Fitted<'_> {
         self.block.reference
     }
 
-    // Row 2: the upper 16 bits of element, by shifts: the library parts a number into bytes alone, not rows. That element has no more than 32 is said here, where it is read.
+    // Row 2: the upper 16 bits of element, by a shift: to join two bytes of `to_be_bytes` is no plainer. That element has no more than 32 is said here, where it is read.
     fn row_2(&self) -> u16
         ensures value { result ≡ row_of self.now.block.now 2 }
         ensures narrow { self.now.block.now.element < 2 ^ 32 }

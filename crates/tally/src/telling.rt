@@ -31,7 +31,7 @@ impl<'a> From<&'a Result<Block, Fault>> for Kind {
 }
 
 impl Tally {
-    // One answer more.
+    // One answer more. By a match, since the three counts are fields with names, and the kind says which of them goes up.
     pub(crate) fn told(self, kind: Kind) -> Tally
         requires { (self.good + 1 < 2 ^ 64) × ((self.foreign + 1 < 2 ^ 64) × (self.bad + 1 < 2 ^ 64)) }
         ensures { result ≡ record { good = self.good + (if same_kind kind Good then 1 else 0); foreign = self.foreign + (if same_kind kind Foreign then 1 else 0); bad = self.bad + (if same_kind kind Bad then 1 else 0) } }
