@@ -131,6 +131,7 @@ pub fn stripe_line<C: Reader>(
     counted(reader, stripe, before, after)
 }
 
+// In a function that needs no answer of ours, so that a wrong body is refused here and not in the answer of `stripe_line`.
 fn counted<C: Reader>(
     reader: &C,
     stripe: Stripe,

@@ -17,17 +17,10 @@ impl Clone for Slab {
     ghost is_clone = { λ s t. t.bytes.items ≡ s.bytes.items };
 
     fn clone(&self) -> Result<Slab, AllocError> {
-        let bytes = copy_of(&self.bytes)?;
-        Ok(Slab { bytes })
+        Ok(Slab {
+            bytes: self.bytes.clone()?,
+        })
     }
-}
-
-// The same bytes.
-fn copy_of(bytes: &Vec<u8>) -> Result<Vec<u8>, AllocError>
-    ensures items { IfOk result (λ v. v.items ≡ bytes.now.items) }
-    ensures len { IfOk result (λ v. vec_len v ≡ vec_len bytes.now) }
-{
-    bytes.clone()
 }
 
 // The slabs of a picture, one for each stripe.

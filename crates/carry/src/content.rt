@@ -6,6 +6,7 @@ use bench::Spot;
 use record::{Block, PictureFlags, Record};
 
 // A frame picture, with the position as its reference.
+#[tactic(auto, unfolding(crate::specs::Content::block_at))]
 pub fn block_at(spot: Spot) -> Block
     ensures value { result ≡ block_in spot.stripe.number spot.column }
     ensures reference { result.reference ≤ 65520 }

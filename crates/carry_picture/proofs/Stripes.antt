@@ -32,9 +32,5 @@ pub reads_inside : (rows words c : ℕ) (at : ℕ → ℕ → ℕ) → rows ≡ 
 reads_inside rows words c at er ew h = let t : ltb c 45 ≡ true = grind (arith, nat_tests) in rw (er, ew, t)
 
 -- an answer is one value
-abbrev taken : {A B : Type 0} → A → Result A B → A
-taken d (Ok x) = x
-taken d (Err e) = d
-
 pub ok_same : {A B : Type 0} (r : Result A B) (x y : A) → r ≡ Ok x → r ≡ Ok y → x ≡ y
-ok_same r x y p q = ap (taken x) (sym p ∙ q)
+ok_same r x y p q = cc (p, q)

@@ -22,6 +22,7 @@ impl BlankImage {
     }
 }
 
+// Apart from `new`, so that the answer it needs is to its own clauses, and the facts of the type are found alone.
 fn blank_image() -> SealedImage
     ensures bytes { result.bytes ≡ blank }
     ensures frame { is_frame result.bytes ≡ true }

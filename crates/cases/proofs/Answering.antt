@@ -3,21 +3,12 @@ use Rattle.std.proofs.Common.{◌≡◌, ℕ, ◌<◌, List, [], ◌∷◌, ◌+
 use Rattle.std.specs.Prelude.{IfSome}
 use Rattle.std.specs.Io.BufRead.{first_line, drop_through, DropsThrough}
 use Rattle.std.specs.Io.KnownBytes.{Appends, IsAtEnd}
+use Rattle.std.proofs.KnownBytes.{Appends-nil, Appends-trans}
 use Rattle.std.proofs.lemmas.Grind.{flat_map-append}
 use Rattle.std.specs.declared.string.String.{String}
 use Rattle.std.specs.declared.alloc.Global.{Global}
 use Rattle.cases.specs.declared.stop.Stop.{Stop}
 use Rattle.cases.specs.Lines.{AnswersLine, AnswersAll, IsTextOf, lines_of}
-
-appends_none : (old : Option (List ℕ)) → Appends old old []
-appends_none None = tt
-appends_none (Some xs) = sym (append-nil xs)
-
-appends_more : (old mid new : Option (List ℕ)) (xs ys : List ℕ) → Appends old mid xs → Appends mid new ys → Appends old new (xs ++ ys)
-appends_more None mid new xs ys first more = tt
-appends_more (Some a) None new xs ys first more = absurd first
-appends_more (Some a) (Some b) None xs ys first more = absurd more
-appends_more (Some a) (Some b) (Some c) xs ys first more = more ∙ ap (λ z. z ++ ys) first ∙ append_assoc a xs ys
 
 module _ (answers : List ℕ → List (List ℕ) → Result (String Global) Stop → Type 0) where
   -- So far texts were written, and they and those that answer the rest answer the whole input.
@@ -26,7 +17,7 @@ module _ (answers : List ℕ → List (List ℕ) → Result (String Global) Stop
 
   pub answered_none : (input rest old : Option (List ℕ)) → rest ≡ input → Answered input rest old old
   answered_none None rest old same = tt
-  answered_none (Some bytes) rest old same = ([], bytes, same, λ more all. all, appends_none old)
+  answered_none (Some bytes) rest old same = ([], bytes, same, λ more all. all, Appends-nil old)
 
   pub answered_more : (input rest rest' old mid new : Option (List ℕ)) (line text : List ℕ) (answer : Result (String Global) Stop) → Answered input rest old mid → IfSome rest (λ xs. (0 < length xs) × (line ≡ first_line xs)) → DropsThrough rest rest' 10 → AnswersLine answers line answer → IsTextOf answer text → Appends mid new (text ++ 10 ∷ []) → Answered input rest' old new
   answered_more None rest rest' old mid new line text answer before read taken answers_it told wrote = tt
@@ -40,7 +31,7 @@ module _ (answers : List ℕ → List (List ℕ) → Result (String Global) Stop
         drop_through 10 others,
         left,
         λ more all. subst (λ all_texts. AnswersAll answers bytes all_texts) (sym (append_assoc texts (text ∷ []) more)) (before.3 (text ∷ more) (front.0, (answer, one, told), all)),
-        subst (Appends old new) (ap (λ z. lines_of texts ++ z) (sym (append-nil (text ++ 10 ∷ []))) ∙ sym (flat_map-append (λ t. t ++ 10 ∷ []) texts (text ∷ []))) (appends_more old mid new (lines_of texts) (text ++ 10 ∷ []) before.4 wrote),
+        subst (Appends old new) (ap (λ z. lines_of texts ++ z) (sym (append-nil (text ++ 10 ∷ []))) ∙ sym (flat_map-append (λ t. t ++ 10 ∷ []) texts (text ∷ []))) (Appends-trans old mid new (lines_of texts) (text ++ 10 ∷ []) before.4 wrote),
       )
 
   pub answered_all : (input rest old new : Option (List ℕ)) → Answered input rest old new → IsAtEnd rest → IfSome input (λ bytes. (texts : List (List ℕ)) × AnswersAll answers bytes texts × Appends old new (lines_of texts))

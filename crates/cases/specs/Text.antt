@@ -9,7 +9,8 @@ use Rattle.fault.specs.Table.{number_of, place_of}
 use Rattle.record.specs.declared.record.Block.{Block}
 use Rattle.cases.specs.Numbers.{block_numbers}
 
--- a number in hex, of so many digits at least
+-- a number in hex, of so many digits at least: the fill is a blank (32), the alignment none (0), the flags the zero that fills up
+-- (4), and the precision none (2 ^ 64 - 1)
 abbrev pub hex_text : ℕ → ℕ → List ℕ
 hex_text width n = padded_integral (format_spec 32 0 4 width (2 ^ 64 - 1)) false [] (digits 16 true n)
 

@@ -1,4 +1,5 @@
-// Hex digits: 0 to 9, and A to F in upper case. The kit's crate `hex` takes lower case too, which is no digit of a case.
+// Hex digits: 0 to 9, and A to F in upper case. Rattle's crate `hex` takes lower case too, which is no digit of the bytes of a check
+// or of embedded rows.
 ghost use Rattle.std.specs.Prelude.{◌≡◌, ℕ, ◌+◌, ◌*◌, ◌%◌, ◌<◌, ◌&&◌, ◌==◌, ◌∷◌, ◌⊎◌, ◌↔◌, [], is_ok, IsOk, true, false, nat_le, length, map, IfOk, IfErr, OnOk, OnErr, MatchResult};
 ghost use Rattle.std.specs.List.{list_all};
 ghost use Rattle.std.specs.Str.Iter.{bytes_rest};

@@ -28,7 +28,7 @@ pub fn answer_lines<K: Kinds>(rt: &HostRuntime, kinds: &K) -> anyhow::Result<()>
     answer_all(rt.alloc(), kinds, input, &mut writer(rt))
 }
 
-// The same of any input and output, where it can be said: what they give and take is known of no file and no terminal.
+// The same of any reader and writer; only where their bytes are known does the contract say what is written.
 pub fn answer_all<K: Kinds, R: BufRead + Drop, W: Write>(
     heap: Global,
     kinds: &K,

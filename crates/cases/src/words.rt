@@ -38,7 +38,7 @@ impl<'a> Words<'a> {
     where
         anyhow::Error: From<T::Err>,
         ensures ok { IfOk result (λ v. (w : List ℕ) × (left self.old ≡ w ∷ left self.new) × T.from_str_gives w (Ok v)) }
-        ensures err { IfErr result (λ _. (left self.old ≡ []) ⊎ ((w : List ℕ) × (left self.old ≡ w ∷ left self.new) × ((e : T.Err) × T.from_str_gives w (Err e)))) }
+        ensures err { IfErr result (λ _. ((left self.old ≡ []) × (left self.new ≡ [])) ⊎ ((w : List ℕ) × (left self.old ≡ w ∷ left self.new) × ((e : T.Err) × T.from_str_gives w (Err e)))) }
     {
         parsed(self.word()?)
     }
@@ -136,6 +136,7 @@ impl<'a> Words<'a> {
     pub(crate) fn block(&mut self) -> anyhow::Result<Block>
         ensures accepts { is_ok result ≡ spelt_whole block_forms (left self.old) }
         ensures numbers { IfOk result (λ b. block_numbers b ≡ numbers_in block_forms (left self.old)) }
+        ensures all { OnOk result (left self.new ≡ []) }
     {
         let block = Block {
             picture: self.picture()?,
@@ -176,6 +177,7 @@ impl<'a> Words<'a> {
     pub(crate) fn bytes(&mut self, heap: Global) -> Result<Vec<u8>, Stop>
         ensures bytes { IfOk result (λ bytes. SpellsBytes (left self.old) bytes.items) }
         ensures stop { IfErr result (λ stop. Unread (are_bytes (left self.old)) stop) }
+        ensures all { OnOk result (left self.new ≡ []) }
     {
         let text = self.left.next().copied().unwrap_or("");
         self.end()?;

@@ -1,5 +1,6 @@
 -- What memory a slab of a case is in.
-use Rattle.std.specs.Prelude.{◌≡◌, ℕ, ◌*◌, ◌/◌, length}
+use Rattle.std.specs.Prelude.{◌≡◌, ℕ, ◌*◌, ◌/◌, Bool, List, length}
+use Rattle.crc.specs.Register.{row_bits, byte_bits}
 use Rattle.raster.specs.declared.extent.Extent.{Extent}
 use Rattle.buffer.specs.Size.{cells_of, bytes_of, granted}
 use Rattle.buffer.specs.Cells.{word_at}
@@ -36,3 +37,9 @@ abbrev pub word_in : SlabCase → Memory → ℕ → ℕ → ℕ
 word_in case (WordMemory cells) i j = word_at cell_word cells.items (shown case (WordMemory cells)).words i j
 word_in case (PackedMemory bytes) i j = word_at packed_word bytes.items (shown case (PackedMemory bytes)).words i j
 word_in case (FieldMemory kind cells) i j = word_at cell_word cells.items (shown case (FieldMemory kind cells)).words (row_below kind i) j
+
+-- all bits of a memory
+abbrev pub bits_in : Memory → List Bool
+bits_in (WordMemory cells) = row_bits cells.items
+bits_in (PackedMemory bytes) = byte_bits bytes.items
+bits_in (FieldMemory kind cells) = row_bits cells.items

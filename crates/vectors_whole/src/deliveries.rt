@@ -71,7 +71,7 @@ impl Step {
     }
 }
 
-// Offers the elements from one index up to another, each to the slot of its index.
+// Offers the elements from one index up to another, each to the slot of its index; from 135 on, where there is none, 0.
 fn offer_elements(
     table: &mut Table<'_, u32>,
     bytes: &[u8; 540],
@@ -79,7 +79,7 @@ fn offer_elements(
     to: usize,
 ) -> Result<(), Fault> {
     for index in from..to {
-        table.offer(index, element_in(bytes, index))?;
+        table.offer(index, element_in(bytes, index).unwrap_or(0))?;
     }
     Ok(())
 }

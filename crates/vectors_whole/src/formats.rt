@@ -10,10 +10,9 @@ use std::fmt::Write;
 // Each macroblock of a stripe: its reference and the index of its element.
 pub fn stripe_case(heap: Global, case: &mut Words<'_>) -> Result<String, Stop> {
     let stripe = StripeCase::of(case)?;
-    let format = Format::try_from(stripe.number)?;
     let mut line = String::from_str(heap, "stripe")?;
-    for column in 0..format.columns() {
-        let place = stripe.place(format, column)?;
+    for column in 0..stripe.format.columns() {
+        let place = stripe.place(column)?;
         write!(line, " {place}")?;
     }
     Ok(line)
@@ -36,26 +35,30 @@ pub fn pictures_case(heap: Global, case: &mut Words<'_>) -> Result<String, Stop>
 
 #[derive(Drop)]
 struct StripeCase {
-    number: u32,
+    format: Format,
     first: u16,
     stripe: usize,
 }
 
 impl StripeCase {
-    fn of(case: &mut Words<'_>) -> anyhow::Result<StripeCase> {
-        let stripe = StripeCase {
-            number: case.take()?,
-            first: case.take()?,
-            stripe: case.take()?,
-        };
+    // The format is looked up last: a line of too many words is no case, whatever its format.
+    fn of(case: &mut Words<'_>) -> Result<StripeCase, Stop> {
+        let number: u32 = case.take()?;
+        let first = case.take()?;
+        let stripe = case.take()?;
         case.end()?;
-        Ok(stripe)
+        let format = Format::try_from(number)?;
+        Ok(StripeCase {
+            format,
+            first,
+            stripe,
+        })
     }
 
-    fn place(&self, format: Format, column: usize) -> Result<Place, Fault> {
+    fn place(&self, column: usize) -> Result<Place, Fault> {
         Ok(Place {
-            reference: format.reference(self.first, self.stripe, column)?,
-            index: format.index(self.stripe, column)?,
+            reference: self.format.reference(self.first, self.stripe, column)?,
+            index: self.format.index(self.stripe, column)?,
         })
     }
 }

@@ -39,16 +39,18 @@ pub fn elements_case(heap: Global, case: &mut Words<'_>) -> Result<String, Stop>
 
 // Judges the blank image with some bits inverted.
 pub fn image_case(heap: Global, case: &mut Words<'_>) -> Result<String, Stop> {
-    let bytes = inverted(case.rest())?;
-    check_image(&bytes)?;
-    Ok(String::from_str(heap, "lawful")?)
+    judged(heap, &inverted(case.rest())?)
 }
 
 // Judges the blank image with some bits inverted and its check mended.
 pub fn mended_case(heap: Global, case: &mut Words<'_>) -> Result<String, Stop> {
     let mut bytes = inverted(case.rest())?;
     mend(&mut bytes);
-    check_image(&bytes)?;
+    judged(heap, &bytes)
+}
+
+fn judged(heap: Global, bytes: &[u8; 540]) -> Result<String, Stop> {
+    check_image(bytes)?;
     Ok(String::from_str(heap, "lawful")?)
 }
 
@@ -84,12 +86,11 @@ pub fn mend(bytes: &mut [u8; 540])
     check.copy_from_slice(&crc::check(data).to_be_bytes());
 }
 
-// The element of an index, in an image that need not be sealed; from 135 on it is 0.
-pub fn element_in(bytes: &[u8; 540], index: usize) -> u32 {
+// The element of an index, if there is one, in an image that need not be sealed.
+pub fn element_in(bytes: &[u8; 540], index: usize) -> Option<u32> {
     let (elements, _) = bytes.as_chunks::<4>();
-    elements
-        .get(index)
-        .map_or(0, |element| u32::from_be_bytes(*element))
+    let element = elements.get(index)?;
+    Some(u32::from_be_bytes(*element))
 }
 
 // Zero bytes, as many as the first word says, with some replaced.

@@ -2,7 +2,8 @@
 ghost use Rattle.std.specs.Prelude.{◌≡◌, ℕ, ⊤, ◌*◌, ◌/◌, IfOk};
 ghost use Rattle.std.specs.Iterator.{YieldsFirst, item_count};
 ghost use Rattle.vectors_whole.specs.Seeds.{next_state, states_of, high_halves, high_bytes};
-ghost use Rattle.vectors_whole.specs.Slabs.{Filled, shown, word_in};
+ghost use Rattle.crc.specs.Register.{check_of};
+ghost use Rattle.vectors_whole.specs.Slabs.{Filled, bits_in, shown, word_in};
 
 use anyhow::anyhow;
 use buffer::{PackedBuffer, WordBuffer};
@@ -85,9 +86,10 @@ impl SlabCase {
     fn doubled(&self) -> Extent
         ensures { result ≡ record { rows = 2 * self.now.rows; words = self.now.words } }
     {
+        let extent = self.extent();
         Extent {
-            rows: 2 * usize::from(self.rows),
-            words: usize::from(self.words),
+            rows: 2 * extent.rows,
+            words: extent.words,
         }
     }
 
@@ -108,7 +110,8 @@ impl SlabCase {
         })
     }
 
-    // The high halves of the states after the seed.
+    // The high halves of the states after the seed. Beside `bytes`, since one function over what is cut from a state would have to say in
+    // its contract what that is.
     fn cells(&self, heap: Global, count: usize) -> Result<Vec<u16>, AllocError>
         ensures { IfOk result (λ cells. cells.items ≡ high_halves count self.now.seed) }
     {
@@ -144,7 +147,8 @@ enum Memory {
 impl Slab {
     // Hands the slab out, as the raster that it is.
     pub fn lend<A: OnSlab>(&mut self, act: A) -> A::Said
-        ensures { let extent = shown self.old.case self.old.memory in A.OnSlab.says act extent.rows extent.words (word_in self.old.case self.old.memory) result }
+        ensures said { let extent = shown self.old.case self.old.memory in A.OnSlab.says act extent.rows extent.words (word_in self.old.case self.old.memory) result }
+        ensures case { self.new.case ≡ self.old.case }
     {
         let case = self.case;
         match &mut self.memory {
@@ -158,7 +162,9 @@ impl Slab {
     }
 
     // The check of all the memory.
-    pub fn check(&self) -> u32 {
+    pub fn check(&self) -> u32
+        ensures { result ≡ check_of (bits_in self.now.memory) }
+    {
         match &self.memory {
             Memory::Word(cells) | Memory::Field(_, cells) => check(cells),
             Memory::Packed(bytes) => check(bytes),

@@ -14,8 +14,7 @@ use inserter::{Inserter, Picture};
 use raster::Raster;
 use record::Record;
 use slots::{Slot, Table, empty_slots};
-use std::alloc::{AllocError, Global};
-use std::collections::BTreeMap;
+use std::alloc::Global;
 use std::fmt;
 use std::str::FromStr;
 
@@ -56,16 +55,16 @@ impl<'a> Scene<'a> {
         let mut table = Table::new(&mut slots);
         let mut sheet = Table::new(&mut lines);
         let gathering = start(self.number, self.gathered, &mut table)?;
-        let mut placed = Ends::none(self.heap);
-        let mut gathered = Ends::none(self.heap);
+        let mut placed = Ends::none();
+        let mut gathered = Ends::none();
         let mut image = SealedImage::blank();
         for word in self.steps {
             match parsed(word)? {
                 Step::Change(change) => replace_in(self.heap, &mut image, change)?,
                 Step::Flip(flip) => flip.on(slab),
-                Step::Place(span) => span.place(picture, slab, &image, &mut placed)?,
+                Step::Place(span) => span.place(picture, slab, &image, &mut placed),
                 Step::Gather(span) => {
-                    span.gather(&gathering, &*slab, &mut table, &mut sheet, &mut gathered)?
+                    span.gather(&gathering, &*slab, &mut table, &mut sheet, &mut gathered)
                 }
             }
         }
@@ -197,13 +196,12 @@ impl Span {
         slab: &mut R,
         image: &SealedImage,
         ends: &mut Ends,
-    ) -> Result<(), AllocError> {
+    ) {
         let stripe = usize::from(self.stripe);
         for column in self.from..self.to {
             let record = record_at(self.stripe, column);
-            ends.add(picture.place(stripe, usize::from(column), slab, image, &record))?;
+            ends.add(picture.place(stripe, usize::from(column), slab, image, &record));
         }
-        Ok(())
     }
 
     fn gather<R: Raster>(
@@ -213,13 +211,12 @@ impl Span {
         table: &mut Table<'_, u32>,
         sheet: &mut Table<'_, Record>,
         ends: &mut Ends,
-    ) -> Result<(), AllocError> {
+    ) {
         let stripe = usize::from(self.stripe);
         sheet.clear();
         for column in self.from..self.to {
-            ends.add(gathering.gather(stripe, usize::from(column), slab, table, sheet))?;
+            ends.add(gathering.gather(stripe, usize::from(column), slab, table, sheet));
         }
-        Ok(())
     }
 }
 
@@ -233,30 +230,29 @@ fn record_at(stripe: u16, column: u16) -> Record {
     }
 }
 
-// How many calls were accepted, and how many refused with each number.
+// How many calls were accepted, and how many refused with each number, of which 26 is the greatest.
 #[derive(Drop)]
 struct Ends {
     accepted: u32,
-    refused: BTreeMap<u8, u32>,
+    refused: [u32; 27],
 }
 
 impl Ends {
-    fn none(heap: Global) -> Ends {
+    fn none() -> Ends {
         Ends {
             accepted: 0,
-            refused: BTreeMap::new(heap),
+            refused: [0; 27],
         }
     }
 
-    fn add<T: Drop>(&mut self, answer: Result<T, Fault>) -> Result<(), AllocError> {
+    fn add<T: Drop>(&mut self, answer: Result<T, Fault>) {
         match answer {
             Ok(_) => self.accepted = self.accepted.saturating_add(1),
             Err(fault) => {
-                let count = self.refused.entry(fault.number())?.or_insert(0);
-                *count = count.saturating_add(1);
+                let number = usize::from(fault.number());
+                self.refused[number] = self.refused[number].saturating_add(1);
             }
         }
-        Ok(())
     }
 }
 
@@ -264,8 +260,10 @@ impl fmt::Display for Ends {
     fn fmt<W: fmt::Write>(&self, f: &mut fmt::Formatter<W>) -> fmt::Result {
         let accepted = self.accepted;
         write!(f, "{accepted}")?;
-        for (number, count) in &self.refused {
-            write!(f, " !{number}={count}")?;
+        for (number, count) in self.refused.iter().enumerate() {
+            if *count > 0 {
+                write!(f, " !{number}={count}")?;
+            }
         }
         Ok(())
     }
