@@ -58,7 +58,15 @@ fn place_stripes(placing: &Placing<'_, '_>, slabs: &mut [Slab; 3]) -> Result<(),
     ensures laden { (stripe : ℕ) → stripe < 3 → LadenSlab stripe (memory_in slabs.old stripe) (memory_in slabs.new stripe) }
 {
     for (number, slab) in slabs.iter_mut().enumerate() {
-        write_stripe(placing, slab, Stripe { number })?;
+        place_stripe(placing, slab, number)?;
     }
     Ok(())
+}
+
+fn place_stripe(placing: &Placing<'_, '_>, slab: &mut Slab, number: usize) -> Result<(), Fault>
+    requires { number < 3 }
+    ensures answer { result ≡ Ok tt }
+    ensures laden { LadenSlab number slab.old.bytes.items slab.new.bytes.items }
+{
+    write_stripe(placing, slab, Stripe { number })
 }

@@ -11,6 +11,6 @@ loop-number-preserved c =
     let items = c.loop-number.slabs in
     let here : n < length items = omega (arith, i.0, c.loop-number-test.true) in (
       length-set items n _ ∙ i.0,
-      (λ k h. elim (cases_eq k n) [ inl s ↦ rw (s, memory_set items n _ here, sym (i.2 n (omega arith)), memory_at items n c.index-slabs-number.result here) c.write_stripe.ensures.laden | inr d ↦ rw (memory_beside items n k _ d) (i.1 k (omega (arith, h, d))) ]),
+      (λ k h. elim (cases_eq k n) [ inl s ↦ rw (s, memory_set items n _ here, sym (i.2 n (omega arith)), memory_at items n c.index-slabs-number.result here) c.place_stripe.ensures.laden | inr d ↦ rw (memory_beside items n k _ d) (i.1 k (omega (arith, h, d))) ]),
       (λ k h. memory_beside items n k _ (λ e. omega (arith, e, h)) ∙ i.2 k (omega (arith, h))),
     )
