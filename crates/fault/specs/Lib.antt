@@ -1,3 +1,4 @@
+pub mod Equality
 pub mod Refusing
 pub mod Table
 pub mod Text
