@@ -1,12 +1,12 @@
 -- Laws of an offer: to one slot, and to a slot in a list.
 use Rattle.std.proofs.Common.{◌≡◌, Decides, ℕ, ◌<◌, ◌≤◌, Bool, true, false, cond, ltb, List, [], ◌∷◌, length, get_or, IfOk, Ok, Err, Result, sym, refl, ap, ◌∙◌, subst, arith}
 use Rattle.std.proofs.lemmas.List.{get_or-set_same, get_or-set_other, set_past}
-use Rattle.std.proofs.lemmas.Bool.{ltb-true, cond-true, cond-false}
+use Rattle.std.proofs.lemmas.Bool.{ltb-true, ltb-false, cond-true, cond-false}
 use Rattle.fault.specs.declared.Fault.{Fault}
 use Rattle.fault.specs.declared.Fault.TheVariants.{SlotNumber}
 use Rattle.slots.specs.declared.slot.Slot.{Slot}
 use Rattle.slots.specs.declared.slot.Slot.TheVariants.{Empty, Held, Disputed}
-use Rattle.slots.specs.Slots.{offered, offered_at, numbered, offers, AllAre, Settled, OffersSettle}
+use Rattle.slots.specs.Slots.{offered, offered_at, numbered, slot_at, offers, AllAre, Settled, OffersSettle}
 
 -- a test that decides equality
 abbrev Exactly : {A : Type 0} → (A → A → Bool) → Type 0
@@ -21,7 +21,15 @@ not-true true h = absurd (h refl)
 not-true false h = refl
 
 module _ {V : Type 0} where
-  -- an offer outside changes nothing
+  -- a number is refused if it lies outside
+  outside_at : (f : Fault) (b : Bool) (x : Slot V) → Err f ≡ cond b (Ok x) (Err SlotNumber) → b ≡ false
+  outside_at f true x h = cc
+  outside_at f false x h = refl
+
+  pub outside : (xs : List (Slot V)) (n : ℕ) (f : Fault) → Err f ≡ slot_at xs n → length xs ≤ n
+  outside xs n f h = ltb-false n (length xs) (outside_at f (ltb n (length xs)) (get_or xs n Empty) h)
+
+  -- and an offer there changes nothing
   pub unchanged : (same : V → V → Bool) (xs : List (Slot V)) (n : ℕ) (v : V) → length xs ≤ n → xs ≡ offered_at same xs n v
   unchanged same xs n v h = sym (set_past xs n (offered same (get_or xs n Empty) v) h)
 

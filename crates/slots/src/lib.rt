@@ -2,12 +2,13 @@
 #![tactic(auto)]
 
 mod empty;
+mod same;
 mod search;
 mod slot;
 mod table;
 
 pub use empty::empty_slots;
-pub use exact::Exact;
+pub use same::Exact;
 pub use search::lowest;
 pub use slot::{Slot, State};
 pub use table::Table;

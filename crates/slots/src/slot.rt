@@ -2,7 +2,7 @@
 ghost use Rattle.std.specs.Prelude.{◌≡◌};
 ghost use Rattle.slots.specs.Slots.{states, state_of, offered, Listed};
 
-use exact::Exact;
+use crate::same::Exact;
 
 // Empty, held with the value that was offered, or disputed: unequal values were.
 #[derive(Clone, Copy, Drop)]
@@ -42,14 +42,14 @@ impl<V> Slot<V> {
     }
 }
 
-impl<V: Exact + Copy> Slot<V> {
+impl<V: Exact> Slot<V> {
     // The slot after a value is offered.
     pub fn offered(self, value: V) -> Slot<V>
-        ensures { result ≡ offered V.PartialEq.eq self value }
+        ensures { result ≡ offered V.Exact.same self value }
     {
         match self {
             Slot::Empty => Slot::Held(value),
-            Slot::Held(held) if held == value => Slot::Held(held),
+            Slot::Held(held) if held.is_same(&value) => Slot::Held(held),
             Slot::Held(_) | Slot::Disputed => Slot::Disputed,
         }
     }

@@ -3,9 +3,9 @@ ghost use Rattle.std.specs.Prelude.{◌≡◌, ℕ, ◌≤◌, length, OnOk, ◌
 ghost use Rattle.slots.specs.declared.slot.Slot.TheVariants.{Empty};
 ghost use Rattle.slots.specs.Slots.{cleared, offered_at, lowest_in, numbered, slot_at, Lowest, Settled, OffersSettle};
 
+use crate::same::Exact;
 use crate::search::lowest;
 use crate::{Slot, State};
-use exact::Exact;
 use fault::Fault;
 
 #[derive(Drop)]
@@ -56,16 +56,16 @@ impl<V: Copy> Table<'_, V> {
     }
 }
 
-impl<V: Exact + Copy> Table<'_, V> {
+impl<V: Exact> Table<'_, V> {
     // Offers a value to the slot of a number. Refuses a number outside, and then writes nothing.
     pub fn offer(&mut self, number: usize, value: V) -> Result<(), Fault>
         ensures answer { result ≡ numbered (length self.old.slots.now) number tt }
-        ensures slots { self.new.slots.now ≡ offered_at V.PartialEq.eq self.old.slots.now number value }
+        ensures slots { self.new.slots.now ≡ offered_at V.Exact.same self.old.slots.now number value }
         ensures name { self.new.slots.ghost_name ≡ self.old.slots.ghost_name }
         ensures settled { OnOk result (Settled (slice_index_or self.old.slots.now number Empty) value (slice_index_or self.new.slots.now number Empty)) }
         ensures others { (k : ℕ) → (k ≢ number) → slice_index_or self.new.slots.now k Empty ≡ slice_index_or self.old.slots.now k Empty }
         ensures refused { length self.old.slots.now ≤ number → self.new.slots.now ≡ self.old.slots.now }
-        ensures run { OffersSettle V.PartialEq.eq }
+        ensures run { OffersSettle V.Exact.same }
     {
         offer_at(self.slots, number, value)
     }
@@ -77,9 +77,9 @@ fn slot_at<V: Copy>(slots: &[Slot<V>], number: usize) -> Result<Slot<V>, Fault>
     slots.get(number).copied().ok_or(Fault::SlotNumber)
 }
 
-fn offer_at<V: Exact + Copy>(slots: &mut [Slot<V>], number: usize, value: V) -> Result<(), Fault>
+fn offer_at<V: Exact>(slots: &mut [Slot<V>], number: usize, value: V) -> Result<(), Fault>
     ensures answer { result ≡ numbered (length slots.old) number tt }
-    ensures slots { slots.new ≡ offered_at V.PartialEq.eq slots.old number value }
+    ensures slots { slots.new ≡ offered_at V.Exact.same slots.old number value }
 {
     // By get_mut the proof did not close: what it leaves of the slots hangs on a loan's end.
     let slot = slot_at(slots, number)?;

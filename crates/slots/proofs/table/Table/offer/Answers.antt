@@ -5,7 +5,7 @@ use Rattle.slots.proofs.table.Table.offer.Goals as goal
 
 pub returns : goal.returns
 returns g c =
-    let same = g.V.PartialEq.eq in
+    let same = g.V.Exact.same in
     let exact = g.met.V.Exact.exact in
     let old = c.args.self.now.slots.now in
     let new = c.offer_at.new.slots in
