@@ -18,5 +18,5 @@ pub use line::StripeLine;
 pub use moved::count_moved;
 pub use picture::{gather_picture, start_picture};
 pub use slab::slab_in;
-pub use slabs::{Slab, Slabs};
+pub use slabs::{Buffers, Slab, Slabs};
 pub use spot::{Spot, Stripe};

@@ -52,8 +52,10 @@ fn answer_line<K: Kinds, W: Write>(
 ) -> anyhow::Result<()>
     ensures { OnOk result ((answer : Result (String Global) Stop) × (text : List ℕ) × AnswersLine (K.answers kinds.now) line.now answer × IsTextOf answer text × Appends (W.contents output.old) (W.contents output.new) (text ++ 10 ∷ [])) }
 {
-    let answer = told(heap, answer_of(heap, line, kinds))?;
-    writeln!(output, "{answer}")?;
+    // One write, so that whoever reads or writes beside it meets whole lines. By `writeln!` the line break is a write of its own.
+    let mut answer = told(heap, answer_of(heap, line, kinds))?;
+    answer.push('\n')?;
+    output.write_all(answer.as_bytes())?;
     Ok(())
 }
 

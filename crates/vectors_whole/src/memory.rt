@@ -131,13 +131,13 @@ impl SlabCase {
 }
 
 // A slab and its memory.
-#[derive(Drop)]
+#[derive(Clone, Drop)]
 pub struct Slab {
     case: SlabCase,
     memory: Memory,
 }
 
-#[derive(Drop)]
+#[derive(Clone, Drop)]
 enum Memory {
     Word(Vec<u16>),
     Packed(Vec<u8>),

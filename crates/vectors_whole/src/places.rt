@@ -18,7 +18,7 @@ pub fn place_case(heap: Global, case: &mut Words<'_>) -> Result<String, Stop> {
     let placing = Placing::of(case)?;
     let image = image_of(heap, case.rest())?;
     let mut before = slab.filled(heap)?;
-    let mut after = slab.filled(heap)?;
+    let mut after = before.clone()?;
     let moved = after.lend(Placed {
         placing,
         image: &image,
