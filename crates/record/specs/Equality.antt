@@ -1,7 +1,7 @@
 -- When two records, flags of pictures, and blocks are equal: exactly when all their parts are. The tests are those of the derived `==`.
 use Rattle.std.specs.Prelude.{◌≡◌, ℕ, Bool, true, ◌&&◌, ◌==◌, ℤ}
 use Rattle.std.specs.Bool.{Decides, beq}
-use Rattle.std.specs.Cmp.{booleans_Decides, signed_Decides, unsigned_Decides, bool_eq_equiv, nat_eq_equiv}
+use Rattle.std.specs.Cmp.{IsEquivalence, decided, booleans_Decides, signed_Decides, unsigned_Decides, bool_eq_equiv, nat_eq_equiv}
 use Rattle.std.proofs.lemmas.Cmp.{int_eq_equiv}
 use Rattle.std.specs.Ordering.{int_eq}
 use Rattle.std.proofs.lemmas.Bool.{and_parts}
@@ -143,3 +143,9 @@ same_block a b =
 
 pub is_same_block_decides : (a b : Block) → Decides (is_same_block a b) (a ≡ b)
 is_same_block_decides a b = (same_block a b, λ e. rw (← e) (simp (bool_eq_equiv.refl, int_eq_equiv.refl, nat_eq_equiv.refl)))
+
+pub is_same_record_laws : IsEquivalence is_same_record
+is_same_record_laws = decided is_same_record is_same_record_decides
+
+pub is_same_block_laws : IsEquivalence is_same_block
+is_same_block_laws = decided is_same_block is_same_block_decides
